@@ -334,8 +334,8 @@ impl Code {
         }
     }
 
-    /// The names of groups.
-    pub(crate) fn names(&self) -> &NameTable
+    /// The names of groups (PCRE2_INFO_NAMETABLE).
+    pub fn names(&self) -> &NameTable
         ensures { result.now ≡ self.now.tree.names }
     {
         self.tree.names()

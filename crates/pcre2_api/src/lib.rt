@@ -23,7 +23,7 @@ pub use frame_store::Span;
 pub use laws::worked_substitutions;
 pub use match_drive::Scratch;
 pub use pat_needs::ByteText;
-pub use pat_tree::{Bsr, MatchOptions, Newline, Options, PartialMode, Steps};
+pub use pat_tree::{Bsr, MatchOptions, NameTable, Newline, Options, PartialMode, Steps};
 pub use pcre_io::{Block, Callouts, NoCallouts};
 pub use pcre2_errors::{CompileError, DfaError, MatchError, SubstError, fault_text};
 pub use reserved::ReservedError;

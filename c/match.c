@@ -1,0 +1,233 @@
+/* Matching (pcre2api, "The match data block", "Matching a pattern"). */
+#include "library.h"
+
+#include <string.h>
+
+_Static_assert(sizeof(size_t) == sizeof(uint64_t), "a pair of places of the door is one of the vector");
+_Static_assert(PCRE2_UNSET == UINT64_MAX, "an unset group is told as the door tells it");
+
+/* ---- match data ---- */
+
+static pcre2_match_data *data_of(uint32_t count, const struct memory *memory) {
+  if (count < 1) count = 1;
+  if (count > UINT16_MAX) count = UINT16_MAX;
+  size_t size = sizeof(pcre2_match_data) + 2 * count * sizeof(size_t);
+  pcre2_match_data *m = get_block(memory, size);
+  if (!m) return NULL;
+  memset(m, 0, size);
+  m->memory = *memory;
+  m->count = (uint16_t)count;
+  m->rc = PCRE2_ERROR_NOMATCH;
+  return m;
+}
+
+pcre2_match_data *pcre2_match_data_create(uint32_t count, pcre2_general_context *g) {
+  return data_of(count, g ? &g->memory : &plain_memory);
+}
+
+pcre2_match_data *pcre2_match_data_create_from_pattern(const pcre2_code *c, pcre2_general_context *g) {
+  return c ? data_of(c->told.groups + 1, g ? &g->memory : &c->memory) : NULL;
+}
+
+void pcre2_match_data_free(pcre2_match_data *m) {
+  if (!m) return;
+  struct memory memory = m->memory;
+  if (m->number) door_free(&m->own);
+  give_block(&memory, m->copied);
+  give_block(&memory, m);
+}
+
+PCRE2_SPTR pcre2_get_mark(pcre2_match_data *m) { return m->has_mark ? m->mark : NULL; }
+size_t *pcre2_get_ovector_pointer(pcre2_match_data *m) { return m->ovector; }
+uint32_t pcre2_get_ovector_count(pcre2_match_data *m) { return m->count; }
+size_t pcre2_get_startchar(pcre2_match_data *m) { return m->startchar; }
+size_t pcre2_get_match_data_size(pcre2_match_data *m) { return sizeof *m + 2 * m->count * sizeof(size_t); }
+
+/* Gives match data a handle of this code, so that threads that share the code don't wait for each other. */
+bool take_handle(pcre2_match_data *m, const pcre2_code *c) {
+  if (m->number == c->number) return true;
+  if (m->number) door_free(&m->own);
+  m->number = share_code(c, &m->own) ? c->number : 0;
+  return m->number != 0;
+}
+
+/* ---- searches ---- */
+
+int begin_match(pcre2_match_data *m, const pcre2_code *c, PCRE2_SPTR *subject, size_t *len, size_t start,
+                uint32_t options, const pcre2_match_context *with) {
+  if (c->magic != MAGIC) return PCRE2_ERROR_BADMAGIC;
+  if (options & (PCRE2_PARTIAL_HARD | PCRE2_PARTIAL_SOFT) && (options | c->options) & PCRE2_ENDANCHORED)
+    return PCRE2_ERROR_BADOPTION;
+  if (!*subject) {
+    if (*len != 0) return PCRE2_ERROR_NULL;
+    *subject = nothing;
+  }
+  if (*len == PCRE2_ZERO_TERMINATED) *len = strlen((const char *)*subject);
+  m->code = c;
+  m->groups = c->told.groups;
+  m->subject = *subject;
+  m->subject_len = *len;
+  m->startchar = start;
+  m->has_mark = false;
+  if (start > *len) return PCRE2_ERROR_BADOFFSET;
+  if (with->offset_limit != PCRE2_UNSET && !(c->options & PCRE2_USE_OFFSET_LIMIT)) return PCRE2_ERROR_BADOFFSETLIMIT;
+  if (with->callout && c->has_callouts) return PCRE2_ERROR_CALLOUT; /* callouts aren't served */
+  return *len > MOST_SUBJECT || !take_handle(m, c) ? PCRE2_ERROR_NOMEMORY : 0;
+}
+
+struct door_match_asked match_asked(uint32_t o, const pcre2_match_context *with, bool *by_depth) {
+  uint64_t units = (uint64_t)with->heap_limit * 1024 / UNIT;
+  *by_depth = with->depth_limit < units;
+  if (*by_depth) units = with->depth_limit;
+  return (struct door_match_asked){
+      .anchored = o & PCRE2_ANCHORED,
+      .endanchored = o & PCRE2_ENDANCHORED,
+      .notbol = o & PCRE2_NOTBOL,
+      .noteol = o & PCRE2_NOTEOL,
+      .notempty = o & PCRE2_NOTEMPTY,
+      .notempty_atstart = o & PCRE2_NOTEMPTY_ATSTART,
+      .dfa_shortest = o & PCRE2_DFA_SHORTEST,
+      .partial = o & PCRE2_PARTIAL_HARD ? 2 : o & PCRE2_PARTIAL_SOFT ? 1 : 0,
+      .match_limit = with->match_limit,
+      .frame_limit = units > UINT32_MAX ? UINT32_MAX : (uint32_t)units,
+  };
+}
+
+int limit_code(int32_t code, bool by_depth) {
+  return code == PCRE2_ERROR_HEAPLIMIT && by_depth ? PCRE2_ERROR_DEPTHLIMIT : code;
+}
+
+/* A search of a part of the subject, from a place on. */
+struct search {
+  const pcre2_code *code;
+  pcre2_match_data *data;
+  struct door_match_asked asked;
+  bool by_depth, checked;
+};
+
+static void keep_mark(pcre2_match_data *m, const struct door_answer *a) {
+  m->has_mark = a->marked;
+  if (!a->marked) return;
+  size_t len = a->mark;
+  if (a->code != 0) len = door_mark(&m->own, (uint32_t)a->mark, m->mark, MARK_ROOM - 1);
+  m->mark[len < MARK_ROOM ? len : MARK_ROOM - 1] = 0;
+}
+
+static int search_part(struct search *s, size_t from, size_t to, size_t start) {
+  pcre2_match_data *m = s->data;
+  const uint8_t *text = m->subject + from;
+  size_t len = to - from, n = m->groups < m->count ? m->groups + 1 : m->count, unused;
+  struct door_answer a = (s->checked || !s->code->told.utf ? door_match_checked : door_match)(
+      &m->own, text, len, start - from, &s->asked, (struct door_pair *)m->ovector, n, m->mark, MARK_ROOM - 1);
+  keep_mark(m, &a);
+  if (a.code == PCRE2_ERROR_UTF8_ERR1) {
+    m->startchar = from + a.at;
+    return character_fault(text + a.at, len - a.at, &unused);
+  }
+  if (a.code == PCRE2_ERROR_PARTIAL) {
+    m->ovector[0] = m->startchar = from + a.at;
+    m->ovector[1] = to;
+  }
+  if (a.code != 0) return limit_code(a.code, s->by_depth);
+  for (size_t i = 0; from > 0 && i < 2 * n; i++) {
+    if (m->ovector[i] != PCRE2_UNSET) m->ovector[i] += from;
+  }
+  m->startchar = m->ovector[0];
+  return a.top < m->count ? (int)a.top + 1 : 0;
+}
+
+/* A subject of PCRE2_MATCH_INVALID_UTF is searched run by run of UTF-8 (pcre2unicode, "Matching in invalid UTF
+   strings"). */
+static int search_runs(struct search *s, size_t start) {
+  const uint8_t *text = s->data->subject;
+  size_t len = s->data->subject_len, from = 0, to = valid_to(text, 0, len);
+  struct door_match_asked asked = s->asked;
+  while (to < start) {
+    from = to + 1;
+    to = valid_to(text, from, len);
+  }
+  if (start > from && start < to && (text[start] & 0xc0) == 0x80) return PCRE2_ERROR_BADUTFOFFSET;
+  s->checked = true;
+  for (;;) {
+    s->asked = asked;
+    s->asked.notbol = asked.notbol || from > 0;
+    s->asked.noteol = asked.noteol || to < len;
+    if (to < len) s->asked.partial = 0;
+    int rc = search_part(s, from, to, start > from ? start : from);
+    if (rc != PCRE2_ERROR_NOMATCH || asked.anchored || to >= len) return rc;
+    from = to + 1;
+    to = valid_to(text, from, len);
+  }
+}
+
+static int finish(pcre2_match_data *m, int rc, uint32_t options) {
+  if (rc >= 0 && options & PCRE2_COPY_MATCHED_SUBJECT) {
+    give_block(&m->memory, m->copied);
+    m->copied = get_block(&m->memory, m->subject_len + 1);
+    if (!m->copied) return PCRE2_ERROR_NOMEMORY;
+    memcpy(m->copied, m->subject, m->subject_len);
+    m->subject = m->copied;
+  }
+  return rc;
+}
+
+int pcre2_match(const pcre2_code *c, PCRE2_SPTR subject, size_t len, size_t start, uint32_t options,
+                pcre2_match_data *m, pcre2_match_context *mc) {
+  const pcre2_match_context *with = mc ? mc : &plain_match;
+  if (!c || !m) return PCRE2_ERROR_NULL;
+  if (options & ~MATCH_OPTIONS) return PCRE2_ERROR_BADOPTION;
+  m->by_dfa = false;
+  m->rc = begin_match(m, c, &subject, &len, start, options, with);
+  if (m->rc != 0) return m->rc;
+  struct search s = {.code = c, .data = m, .checked = options & PCRE2_NO_UTF_CHECK};
+  s.asked = match_asked(options, with, &s.by_depth);
+  int rc = c->options & PCRE2_MATCH_INVALID_UTF ? search_runs(&s, start) : search_part(&s, 0, len, start);
+  if ((rc >= 0 || rc == PCRE2_ERROR_PARTIAL) && m->startchar > with->offset_limit) rc = PCRE2_ERROR_NOMATCH;
+  m->rc = finish(m, rc, options);
+  return m->rc;
+}
+
+/* ---- all ends ---- */
+
+/* The ends stand in the second half of the vector, and become pairs from the front on. */
+static int pair_ends(pcre2_match_data *m, size_t start, size_t count) {
+  size_t n = count < m->count ? count : m->count;
+  for (size_t i = 0; i < n; i++) {
+    m->ovector[2 * i + 1] = m->ovector[m->count + i];
+    m->ovector[2 * i] = start;
+  }
+  for (size_t i = 2 * n; i < 2u * m->count; i++) m->ovector[i] = PCRE2_UNSET;
+  return count <= m->count ? (int)count : 0;
+}
+
+static int search_ends(pcre2_match_data *m, size_t start, const struct door_match_asked *asked, bool by_depth) {
+  size_t len = m->subject_len, unused;
+  struct door_ends_answer a = door_ends(&m->own, m->subject, len, start, asked,
+                                        (uint64_t *)m->ovector + m->count, m->count);
+  if (a.code == 0 || a.code == PCRE2_ERROR_PARTIAL || a.code == PCRE2_ERROR_UTF8_ERR1) m->startchar = a.at;
+  if (a.code == PCRE2_ERROR_UTF8_ERR1) return character_fault(m->subject + a.at, len - a.at, &unused);
+  if (a.code == PCRE2_ERROR_PARTIAL) {
+    m->ovector[0] = a.at;
+    m->ovector[1] = len;
+  }
+  return a.code == 0 ? pair_ends(m, a.at, a.count) : limit_code(a.code, by_depth);
+}
+
+int pcre2_dfa_match(const pcre2_code *c, PCRE2_SPTR subject, size_t len, size_t start, uint32_t options,
+                    pcre2_match_data *m, pcre2_match_context *mc, int *room, size_t n) {
+  const pcre2_match_context *with = mc ? mc : &plain_match;
+  if (!c || !m || !room) return PCRE2_ERROR_NULL;
+  if (options & ~(MATCH_OPTIONS | PCRE2_DFA_SHORTEST | PCRE2_DFA_RESTART)) return PCRE2_ERROR_BADOPTION;
+  if (n < 20) return PCRE2_ERROR_DFA_WSSIZE;
+  if (options & PCRE2_DFA_RESTART) return PCRE2_ERROR_DFA_BADRESTART; /* a search isn't continued */
+  m->by_dfa = true;
+  m->rc = begin_match(m, c, &subject, &len, start, options, with);
+  if (m->rc != 0) return m->rc;
+  if (c->options & PCRE2_MATCH_INVALID_UTF) return m->rc = PCRE2_ERROR_DFA_UINVALID_UTF;
+  bool by_depth;
+  struct door_match_asked asked = match_asked(options, with, &by_depth);
+  int rc = search_ends(m, start, &asked, by_depth);
+  if ((rc >= 0 || rc == PCRE2_ERROR_PARTIAL) && m->startchar > with->offset_limit) rc = PCRE2_ERROR_NOMATCH;
+  m->rc = finish(m, rc, options);
+  return m->rc;
+}

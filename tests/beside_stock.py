@@ -1,0 +1,174 @@
+#!/usr/bin/env python3
+"""Compiles, matches, matches by all ends and substitutes random patterns with the stock library and with ours.
+
+    tests/beside_stock.py [PATTERNS [SEED]]
+
+STOCK and OURS name the two libraries. Start optimisations are off in both, since they change marks and limits. What
+differs is written, and then counted."""
+import ctypes
+import os
+import random
+import sys
+
+TOP = os.path.dirname(os.path.dirname(os.path.abspath(__file__)))
+STOCK = os.environ.get("STOCK", "libpcre2-8.so.0")
+OURS = os.environ.get("OURS", f"{TOP}/lib/libpcre2-8.so.0")
+
+PLAIN = 0x1C000  # NO_AUTO_POSSESS, NO_DOTSTAR_ANCHOR, NO_START_OPTIMIZE
+OPTIONS = [0x8, 0x400, 0x20, 0x80000, 0xA0000, 0x80, 0x80000000, 0x10, 0x40000, 0x100, 0x40, 0x2000, 0x20000000, 0x200, 0x1]
+MATCH_OPTIONS = [0x1, 0x2, 0x4, 0x8, 0x10, 0x20, 0x80000000]
+PARTIAL = 0x30
+INFO = {"groups": 4, "names": 17, "entry": 18, "empty": 13}
+LIMITS = {-47, -52, -53, -63}
+NOT_BUILT = {195}
+NO_DFA = {-40, -42, -43}
+
+ITEMS = r"""a b c x ab . \d \w \s \b \B ^ $ [ab] [^a] [a-c\d] \W é \x41 \h \R \N [[:alpha:]] \p{L} \P{Lu} \A \z \Z \G A B 1
+\n [é-ü] \S \D (?i) \1 \2 (?1) (?R) \g{-1} \k<n> (*ACCEPT) (*FAIL) (*COMMIT) (*PRUNE) (*SKIP) (*THEN) (*MARK:m) \Q+\E
+(?#c) (?x) \v (?-i) (?s) (?m) (?J)""".split()
+COMMON = ITEMS[:24]
+QUANTIFIERS = "* + ? {2} {1,3} {0,2} *? +? ?? *+ ++ ?+ {2,}".split()
+OPENERS = "( (?: (?= (?! (?<= (?<! (?> (?<n> (?| (?i: (?(1) (?(?=a) (?s-i: (?P<m> (?(R) (?(<n>)".split()
+PIECES = ["a", "b", "c", "x", "A", "B", "1", "2", " ", "\n", "é", "ü", "aa", "ab", "+", "\r\n", "_", "É"]
+REPLACEMENTS = [b"<$0>", b"[${1}]", b"$$-$1", b"x"]
+
+
+class Library:
+    def __init__(self, path, match_limit):
+        self.lib = ctypes.CDLL(path, mode=os.RTLD_LOCAL | os.RTLD_NOW)
+        for name in ("compile", "match_data_create", "match_context_create", "get_ovector_pointer", "get_mark"):
+            self.call(name).restype = ctypes.c_void_p
+        self.with_limit = ctypes.c_void_p(self.call("match_context_create")(None))
+        self.call("set_match_limit")(self.with_limit, match_limit)
+        self.data = ctypes.c_void_p(self.call("match_data_create")(8, None))
+        vector = self.call("get_ovector_pointer")(self.data)
+        self.places = ctypes.cast(vector, ctypes.POINTER(ctypes.c_ssize_t))
+        self.work = (ctypes.c_int * 2000)()
+
+    def call(self, name):
+        return getattr(self.lib, f"pcre2_{name}_8")
+
+    def compile(self, pattern, options):
+        error, at = ctypes.c_int(), ctypes.c_size_t()
+        code = self.call("compile")(pattern, ctypes.c_size_t(len(pattern)), options, ctypes.byref(error), ctypes.byref(at), None)
+        return ctypes.c_void_p(code) if code else None, (error.value, at.value)
+
+    def free(self, code):
+        if code:
+            self.call("code_free")(code)
+
+    def info(self, code):
+        told = {}
+        for name, question in INFO.items():
+            n = ctypes.c_uint32()
+            self.call("pattern_info")(code, question, ctypes.byref(n))
+            told[name] = n.value
+        return told
+
+    def found(self, rc):
+        pairs = 1 if rc == -2 else 8 if rc == 0 else max(rc, 0)
+        return rc, self.places[: 2 * pairs]
+
+    def match(self, code, subject, start, options):
+        sizes = ctypes.c_size_t(len(subject)), ctypes.c_size_t(start)
+        return self.found(self.call("match")(code, subject, *sizes, options, self.data, self.with_limit))
+
+    def mark(self):
+        mark = self.call("get_mark")(self.data)
+        return ctypes.string_at(mark) if mark else None
+
+    def ends(self, code, subject, start, options):
+        sizes = ctypes.c_size_t(len(subject)), ctypes.c_size_t(start)
+        room = self.work, ctypes.c_size_t(len(self.work))
+        return self.found(self.call("dfa_match")(code, subject, *sizes, options, self.data, self.with_limit, *room))
+
+    def substitute(self, code, subject, start, options, by):
+        out, room = ctypes.create_string_buffer(2000), ctypes.c_size_t(2000)
+        sizes = ctypes.c_size_t(len(subject)), ctypes.c_size_t(start)
+        rc = self.call("substitute")(code, subject, *sizes, options, None, self.with_limit, by, ctypes.c_size_t(len(by)), out, ctypes.byref(room))
+        return rc, out.raw[: room.value] if rc >= 0 else b""
+
+
+def pattern(r, depth):
+    text = ""
+    for _ in range(r.randint(1, 4)):
+        if depth and r.randrange(4) == 0:
+            text += r.choice(OPENERS[: r.choice((10, 16))]) + pattern(r, depth - 1)
+            while r.randrange(3) == 0:
+                text += "|" + pattern(r, depth - 1)
+            text += ")"
+        else:
+            text += r.choice(COMMON if r.randrange(3) else ITEMS)
+        if r.randrange(3) == 0:
+            text += r.choice(QUANTIFIERS)
+    return text
+
+
+class Tally:
+    def __init__(self):
+        self.counts, self.shown = {}, {}
+
+    def add(self, what, same, *told):
+        row = self.counts.setdefault(what, [0, 0])
+        row[0] += 1
+        if not same:
+            row[1] += 1
+            if row[1] <= 10:
+                print(what, *told)
+
+
+def one_pattern(r, stock, ours, tally):
+    text = pattern(r, 3).encode()
+    options = PLAIN
+    while r.randrange(2):
+        options |= r.choice(OPTIONS)
+    (a, fault_a), (b, fault_b) = stock.compile(text, options), ours.compile(text, options)
+    if a and b:
+        told_a, told_b = stock.info(a), ours.info(b)
+        tally.add("info", told_a == told_b, text, hex(options), told_a, told_b)
+        for _ in range(6):
+            one_subject(r, stock, ours, tally, (a, b), (text, hex(options)))
+    elif fault_b[0] in NOT_BUILT:
+        tally.add("not built", True)
+    else:
+        tally.add("compiles", not a and not b, text, hex(options), fault_a, fault_b)
+        if not a and not b:
+            tally.add("fault", fault_a == fault_b, text, hex(options), fault_a, fault_b)
+    stock.free(a)
+    ours.free(b)
+
+
+def one_subject(r, stock, ours, tally, codes, told):
+    subject = "".join(r.choice(PIECES) for _ in range(r.randrange(10))).encode()
+    options = r.choice(MATCH_OPTIONS) if r.randrange(3) == 0 else 0
+    start = 0 if r.randrange(4) else r.randrange(len(subject) + 1)
+    told = (*told, subject, start, hex(options))
+    x, y = (lib.match(code, subject, start, options) for lib, code in zip((stock, ours), codes))
+    if x[0] in LIMITS or y[0] in LIMITS:
+        tally.add("limit", True)
+    else:
+        tally.add("partial match" if options & PARTIAL else "match", x == y, *told, x, y)
+        if x == y and not options & PARTIAL:
+            tally.add("mark", stock.mark() == ours.mark(), *told, stock.mark(), ours.mark())
+    x, y = (lib.ends(code, subject, start, options) for lib, code in zip((stock, ours), codes))
+    if not {x[0], y[0]} & (NO_DFA | LIMITS):
+        tally.add("partial ends" if options & PARTIAL else "ends", x == y, *told, x, y)
+    if options & (PARTIAL | 0x8):
+        return
+    how, by = options | 0x400 | 0x800 | r.choice((0, 0x100)), r.choice(REPLACEMENTS)
+    x, y = (lib.substitute(code, subject, start, how, by) for lib, code in zip((stock, ours), codes))
+    if not {x[0], y[0]} & LIMITS:
+        tally.add("substitution", x == y, *told, by, x, y)
+
+
+def main():
+    count = int(sys.argv[1]) if len(sys.argv) > 1 else 2000
+    r = random.Random(int(sys.argv[2]) if len(sys.argv) > 2 else 1)
+    stock, ours, tally = Library(STOCK, 200000), Library(OURS, 1000000), Tally()
+    for _ in range(count):
+        one_pattern(r, stock, ours, tally)
+    for what, (tried, other) in sorted(tally.counts.items()):
+        print(f"{what}: {tried} tried, {other} differ")
+
+
+main()
