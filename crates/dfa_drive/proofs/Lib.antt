@@ -3,3 +3,5 @@ pub mod Downward
 pub mod Scenes
 pub mod Ending
 pub mod Walking
+pub mod Agreeing
+pub mod CommonLaw
