@@ -5,3 +5,4 @@ pub mod Ending
 pub mod Walking
 pub mod Agreeing
 pub mod CommonLaw
+pub mod Enough

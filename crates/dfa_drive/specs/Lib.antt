@@ -4,3 +4,4 @@ pub mod Admitted
 pub mod Answer
 pub mod Agreement
 pub mod Common
+pub mod Enough
