@@ -7,6 +7,7 @@ ghost use Rattle.match_drive.specs.frame_board.Ready.{IsReadySearch, setting_for
 ghost use Rattle.match_drive.specs.match_starts.Asked.{passed_over};
 ghost use Rattle.dfa_lists.specs.dfa_paths.Fragment.{IsGraphOf};
 ghost use Rattle.dfa_ends.specs.DfaAnswer.{decision, dfa_answer};
+ghost use Rattle.dfa_drive.specs.Agreement.{Agrees};
 ghost use Rattle.dfa_drive.specs.Answer.{IsDfaAnswer, IsDecision, IsDecidedBy, IsPlaced, IsWhole};
 
 use crate::answer::DfaAnswer;
@@ -75,6 +76,10 @@ fn decision_at<L: Ledger>(
 /// partial matching before its ends, under soft partial matching where it has none (pcre2api,
 /// "Matching a pattern: the alternative function"; pcre2partial). Fails for want of memory alone.
 ///
+/// Without partial matching, for a pattern without verbs but FAIL, calls, callouts and atomic groups,
+/// the ends are the admitted places of the states of the ordered search from that place, where that
+/// search runs to its end (pcre2matching, "The alternative matching algorithm").
+///
 /// Needs the table, the facts and the graph of the tree, and a view with the tree's options; a subject
 /// of fewer than 4,294,967,295 bytes, in UTF of UTF-8, and a start in it at a character.
 pub fn dfa_search<L: Ledger>(
@@ -94,6 +99,7 @@ pub fn dfa_search<L: Ledger>(
     ensures placed { IfOk result
         (IsPlaced view.now.options.now view.now.subject.now view.now.start) }
     ensures whole { IfOk result (λ answer. view.now.matching.now.partial ≡ Off → IsWhole answer) }
+    ensures agrees { IfOk result (Agrees (setting_for ready.now.tree.now view.now passed_over)) }
 {
     let last = last_start(ready, view);
     let mut next = Some(view.start);

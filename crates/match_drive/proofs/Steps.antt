@@ -112,6 +112,16 @@ module _ (g : Setting) (begun : g.start ≤ length g.subject) where
   from_covered n None h = none_left n
   from_covered n (Some p) h = covered n (length g.subject + 1 - p) (Some p) h (h.0, omega (arith, h.0, last_within g begun))
 
+  first_covered : (n : ℕ) → length g.subject < n + g.start → Covers n (within g (Some g.start))
+  unfolding Covers
+  first_covered n room =
+      subst (Covers n) (sym (up_to_is (last_place g) g.start (start_within g begun))) (start_within g begun, room)
+
+  pub enough_places : (more : ℕ) → from_place g ((length g.subject + 1 - g.start) + more) (within g (Some g.start)) ≡ match_answer g
+  enough_places more =
+      let n = length g.subject + 1 - g.start in
+      covered (n + more) n (within g (Some g.start)) (first_covered (n + more) (omega (arith, begun))) (first_covered n (omega (arith, begun)))
+
   -- What is found from a place on: what is found there, and from the place after it on.
 
   found_place : (p : ℕ) → p ≤ last_place g → found_from g (Some p) ≡ found_at p (tried g p) (λ signal. found_from g (place_after g p signal))

@@ -10,3 +10,4 @@ pub mod Run
 pub mod Outline
 pub mod Course
 pub mod Starts
+pub mod Enough

@@ -1,11 +1,11 @@
 -- A match says what the search says that it holds.
-use Rattle.std.proofs.Common.{◌≡◌, sym, subst}
+use Rattle.std.proofs.Common.{◌≡◌, ◌∙◌, refl, sym, ap, subst}
 use Rattle.std.specs.Prelude.{Result, Ok, Err, IfOk, IfErr, OnOk}
 use Rattle.pcre2_errors.specs.declared.error.MatchError.{MatchError}
 use Rattle.pcre2_api.specs.declared.reserved.ReservedError.{ReservedError}
 use Rattle.pcre2_api.specs.declared.found.Held.{Held}
 use Rattle.pcre2_api.specs.Matched.{MatchParts}
-use Rattle.pcre2_api.specs.Holding.{parts_of, as_found, as_reserved}
+use Rattle.pcre2_api.specs.Holding.{HasAnswer, parts_of, as_found, as_reserved}
 
 module _ (r : Result Held MatchError) (r' : Result MatchParts MatchError) (same : r' ≡ as_found r) where
   if_held : (P : MatchParts → Type 0) (x : Result Held MatchError) → IfOk x (λ h. P (parts_of h)) → IfOk (as_found x) P
@@ -28,6 +28,13 @@ module _ (r : Result Held MatchError) (r' : Result MatchParts MatchError) (same 
 
   pub if_refused : (P : MatchError → Type 0) → IfErr r P → IfErr r' P
   if_refused P p = subst (λ (x : Result MatchParts MatchError). IfErr x P) (sym same) (if_not P r p)
+
+  answered : (x : Result Held MatchError) → HasAnswer x ≡ HasAnswer (as_found x)
+  answered (Ok h) = refl
+  answered (Err e) = refl
+
+  pub same_answer : HasAnswer r ≡ HasAnswer r'
+  same_answer = answered r ∙ ap (λ (x : Result MatchParts MatchError). HasAnswer x) (sym same)
 
 module _ (r : Result Held ReservedError) (r' : Result MatchParts ReservedError) (same : r' ≡ as_reserved r) where
   if_held' : (P : MatchParts → Type 0) (x : Result Held ReservedError) → IfOk x (λ h. P (parts_of h)) → IfOk (as_reserved x) P

@@ -1,13 +1,13 @@
 -- What the walks of calls that lend a workspace cite.
-pub use Rattle.std.proofs.Common.{◌≡◌, ℕ, List, [], ◌∷◌, refl, w64}
+pub use Rattle.std.proofs.Common.{◌≡◌, ℕ, List, [], ◌∷◌, refl, subst, w64}
 pub use Rattle.std.proofs.raw_atomic.Walks.{proved}
-pub use base.Logic.{id⊢, emp}
+pub use base.Logic.{id⊢, emp, ent}
 pub use base.Fml.{Fml, ftrue, fsep, flft}
 pub use mir.Syntax.{Dict, named, a_type, dcons, dnil}
 pub use mir.MapTy.{inst_fn}
 pub use contract.Running.{tables}
 pub use contract.Monad.{fact, fact_i}
-pub use types.Kit.{‵, raw, ◌⊛◌, some, later, ◌$◌, ◌∵◌, !, qed, done, move, keep, drop, use0, use1, use2, split, join, pick, await, suffices, group}
+pub use types.Kit.{Item, mean, ‵, raw, ◌⊛◌, some, later, ◌$◌, ◌∵◌, !, qed, done, move, keep, drop, use0, use1, use2, split, join, pick, await, suffices, group}
 pub use types.Run.{enter, addr, stop, no_more, and_then, returns}
 pub use types.ByLocal.{alloc_all, pass_all, free_all, look_at, get, through, sets, lands_as}
 pub use denote.Builtin.{u8, usize, RefOf, RefMutOf, SliceRefOf}

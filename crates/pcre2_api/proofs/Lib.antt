@@ -7,6 +7,7 @@ pub mod Behind
 pub mod Informing
 pub mod Taking
 pub mod Walking
+pub mod Enough
 pub mod Replacing
 pub mod Rewriting
 pub mod SubstitutionRows

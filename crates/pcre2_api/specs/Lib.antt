@@ -10,6 +10,7 @@ pub mod Answers
 pub mod Informs
 pub mod Taken
 pub mod Walks
+pub mod Enough
 pub mod Substituted
 pub mod WorkedSubstitutions
 pub mod DfaMatched

@@ -12,9 +12,10 @@ ghost use Rattle.pcre2_api.specs.Patterns.{compiled};
 ghost use Rattle.pcre2_api.specs.Informs.{info_in};
 ghost use Rattle.match_drive.specs.frame_state.Room.{IsQuiet};
 ghost use Rattle.pcre2_api.specs.Reserved.{Fits, IsOfMatch};
-ghost use Rattle.pcre2_api.specs.Holding.{Leaves, found_in};
-ghost use Rattle.match_drive.specs.Answer.{IsMatchAnswer, IsOfMatching, IsShown};
+ghost use Rattle.pcre2_api.specs.Holding.{HasAnswer, Leaves, found_in};
+ghost use Rattle.match_drive.specs.Answer.{IsMatchAnswer, IsLastMark, IsOfMatching, IsShown};
 ghost use Rattle.ordered_search.specs.Forward.{IsPlain};
+ghost use Rattle.ordered_search.specs.PlaceAnswer.{last_name};
 ghost use Rattle.ordered_search.specs.MatchAnswer.{match_answer};
 ghost use Rattle.uni_text.specs.Characters.{IsChecked};
 ghost use Rattle.pcre2_api.specs.Matched.{search_of, shown_by, AreParts, IsFound, IsMatchError, HasShown};
@@ -114,8 +115,8 @@ impl Code {
     /// Looks for a match from a start on (pcre2_match). Places are in bytes. Any workspace serves, new or used; the
     /// captures of the match are read there as long as it is borrowed. In UTF the whole subject is looked at first
     /// (pcre2unicode, "Validity of UTF strings"), also that before the start. Under partial matching a partial match is told
-    /// as an error (pcre2partial). At each callout it calls `calls`, and follows the answer (pcre2callout). Needs a subject
-    /// of fewer than 4,294,967,295 bytes.
+    /// as an error (pcre2partial). At each callout it calls `calls`, and follows the answer (pcre2callout). The workspace
+    /// keeps its room, and the last name that the search met. Needs a subject of fewer than 4,294,967,295 bytes.
     pub fn match_at<'a, C: Callouts>(
         &'a self,
         subject: &'a [u8],
@@ -125,7 +126,9 @@ impl Code {
         calls: &mut C,
     ) -> Result<Found<'a>, MatchError>
         requires short { length subject.now < 4294967295 }
-        ensures* peak { sem 𝓛 (Leaves scratch.entry options.now.frame_limit) }
+        ensures* leaves { sem 𝓛 (Leaves scratch.entry
+            (search_of self.now options.now subject.now start (C.answers calls.old))
+            (HasAnswer result)) }
         ensures found { IfOk result
             (IsFound (search_of self.now options.now subject.now start (C.answers calls.old))) }
         ensures code { IfOk result (λ f. (f.code ≡ self.now) × (f.subject ≡ subject.now)) }
@@ -161,13 +164,17 @@ impl Code {
     ) -> Result<Found<'a>, MatchError>
         requires checked { IsChecked self.now.tree.options.utf subject.now }
         requires short { length subject.now < 4294967295 }
-        ensures* peak { sem 𝓛 (Leaves scratch.entry options.now.frame_limit) }
+        ensures* leaves { sem 𝓛 (Leaves scratch.entry
+            (search_of self.now options.now subject.now start (C.answers calls.old))
+            (HasAnswer result)) }
         ensures found { IfOk result
             (IsFound (search_of self.now options.now subject.now start (C.answers calls.old))) }
         ensures code { IfOk result (λ f. (f.code ≡ self.now) × (f.subject ≡ subject.now)) }
         ensures refused { IfErr result
             (IsMatchError
             (search_of self.now options.now subject.now start (C.answers calls.old))) }
+        ensures starts { start_fault self.now.tree.options.utf subject.now start ≡ None
+            → AreAlike (search_of self.now options.now subject.now start (C.answers calls.old)) }
         ensures rule { (block : Block) → C.answers calls.new block ≡ C.answers calls.old block }
         ensures seen { OnOk result
             (C.seen calls.new
@@ -177,6 +184,8 @@ impl Code {
             (λ e. HasShown e (C.seen calls.new)
             (shown_by (search_of self.now options.now subject.now start (C.answers calls.old))
             (C.seen calls.old))) }
+        ensures reserved { Fits self.now options.now scratch.old
+            → IsQuiet C.refuses (C.answers calls.old) → IfErr result IsOfMatch }
     {
         found_of(seek_again(scratch, self, subject, start, options, calls))
     }
@@ -210,6 +219,10 @@ impl Code {
         ensures refused { IfErr result (IsMatchError
             (search_of self.now options.now subject.now start (C.answers calls.old))) }
         ensures peak { scratch.new.peak ≤ max scratch.old.peak options.now.frame_limit }
+        ensures groups { scratch.new.groups ≡ scratch.old.groups }
+        ensures frames { scratch.new.frames ≡ scratch.old.frames }
+        ensures last_mark { HasAnswer result → scratch.new.last_mark ≡ last_name (match_answer
+            (search_of self.now options.now subject.now start (C.answers calls.old))).notes }
         ensures rule { (block : Block) → C.answers calls.new block ≡ C.answers calls.old block }
         ensures seen { OnOk result (C.seen calls.new
             ≡ shown_by
@@ -256,7 +269,12 @@ impl Code {
             (search_of self.now options.now subject.now start (C.answers calls.old))
             (match_answer
             (search_of self.now options.now subject.now start (C.answers calls.old))).answer }
+        ensures last_mark { IsLastMark result scratch.new.last_mark
+            (match_answer
+            (search_of self.now options.now subject.now start (C.answers calls.old))) }
         ensures peak { scratch.new.peak ≤ max scratch.old.peak options.now.frame_limit }
+        ensures groups { scratch.new.groups ≡ scratch.old.groups }
+        ensures frames { scratch.new.frames ≡ scratch.old.frames }
         ensures rule { (block : Block) → C.answers calls.new block ≡ C.answers calls.old block }
         ensures seen { IsShown result (C.seen calls.old) (C.seen calls.new)
             (match_answer

@@ -1,6 +1,7 @@
 //! A match by all ends at one place.
 ghost use Rattle.std.specs.Prelude.{◌≡◌, ◌<◌, None, IfOk, IfErr, length};
 ghost use Rattle.match_drive.specs.match_starts.Asked.{passed_over};
+ghost use Rattle.dfa_drive.specs.Agreement.{AgreeFrom};
 ghost use Rattle.pcre2_api.specs.Matched.{search_of};
 ghost use Rattle.pcre2_api.specs.Starts.{start_fault};
 ghost use Rattle.pcre2_api.specs.DfaMatched.{start_error_of, IsDfaFound, IsDfaError};
@@ -38,7 +39,9 @@ impl Code {
     /// match before its ends count, where a test on the way from it reaches the subject's end; under
     /// soft partial matching, where it has no end (pcre2partial). A start where no match can begin is
     /// refused first, as [`Code::match_at`] refuses it; then what isn't supported, the leftmost item
-    /// deciding. Captures are ignored. Needs a subject of fewer than 4,294,967,295 bytes.
+    /// deciding. Captures are ignored. Without partial matching, for a pattern without verbs but FAIL,
+    /// calls, callouts and atomic groups, the ends are where the other matcher could end at that place,
+    /// if its search there ends by itself. Needs a subject of fewer than 4,294,967,295 bytes.
     pub fn dfa_match<L: Ledger>(
         &self,
         alloc: Global,
@@ -53,6 +56,8 @@ impl Code {
             (search_of self.now options.now subject.now start passed_over)) }
         ensures refused { IfErr result (IsDfaError
             (search_of self.now options.now subject.now start passed_over)) }
+        ensures agrees { IfOk result (λ f. AgreeFrom
+            (search_of self.now options.now subject.now start passed_over) f.start f.ends) }
     {
         match self.test_start(subject, start) {
             Ok(()) => self.ends_from(alloc, subject, start, options, lists, steps),
@@ -76,6 +81,8 @@ impl Code {
             (search_of self.now options.now subject.now start passed_over)) }
         ensures refused { IfErr result (IsDfaError
             (search_of self.now options.now subject.now start passed_over)) }
+        ensures agrees { IfOk result (λ f. AgreeFrom
+            (search_of self.now options.now subject.now start passed_over) f.start f.ends) }
     {
         let ready = self.ready();
         let graph = Graph::build(alloc, ready.tree, ready.facts)?;

@@ -5,7 +5,7 @@ ghost use Rattle.std.specs.Str.{bytes_eq};
 ghost use Rattle.std.specs.Option.{option_copied};
 ghost use Rattle.pcre2_api.specs.Captured.{span_of, group_of, named_of, top_of, mark_of};
 ghost use Rattle.pcre2_api.specs.Matched.{AreParts};
-ghost use Rattle.pcre2_api.specs.Holding.{parts_of, as_found, as_reserved};
+ghost use Rattle.pcre2_api.specs.Holding.{found_in, parts_of, as_found, as_reserved};
 
 use crate::code::Code;
 use crate::reserved::ReservedError;
@@ -94,6 +94,24 @@ pub(crate) fn reserved_found<'a>(
 }
 
 impl<'a> Found<'a> {
+    /// The match that a search found, whose captures are in a workspace.
+    pub(crate) fn new(
+        code: &'a Code,
+        subject: &'a [u8],
+        scratch: &'a Scratch,
+        text: Text,
+    ) -> Found<'a>
+        requires { AreParts (found_in code.now subject.now text scratch.now) }
+        ensures { result ≡ found_in code.now subject.now text scratch.now }
+    {
+        Found {
+            code,
+            subject,
+            scratch,
+            text,
+        }
+    }
+
     /// Whether the subject is one in UTF.
     pub fn is_utf(&self) -> bool
         ensures { result ≡ self.now.code.tree.options.utf }

@@ -20,7 +20,7 @@ pub use dfa::DfaFound;
 pub use dfa_drive::{EndList, Lists};
 pub use found::Found;
 pub use frame_store::Span;
-pub use laws::worked_substitutions;
+pub use laws::{searches_are_enough, worked_substitutions};
 pub use match_drive::Scratch;
 pub use pat_needs::ByteText;
 pub use pat_tree::{Bsr, MatchOptions, NameTable, Newline, Options, PartialMode, Steps};

@@ -1,9 +1,9 @@
 //! Matches in room that was made before, which take no memory.
-ghost use Rattle.std.specs.Prelude.{◌≡◌, ◌≤◌, ◌<◌, ◌↔◌, IfOk, IfErr, IsTrue, length, max, pos};
+ghost use Rattle.std.specs.Prelude.{◌≡◌, ⊤, ◌≤◌, ◌<◌, ◌↔◌, IfOk, IfErr, IsTrue, length, max, pos};
 ghost use Rattle.std.specs.Borrow.{sem};
 ghost use Rattle.pcre2_api.specs.Matched.{search_of, AreParts, IsFound, IsMatchError};
 ghost use Rattle.pcre2_api.specs.Reserved.{Fits, IsOfMatch, as_match_error};
-ghost use Rattle.pcre2_api.specs.Holding.{Leaves, found_in};
+ghost use Rattle.pcre2_api.specs.Holding.{Leaves, found_in, mark_left};
 
 use crate::code::Code;
 use crate::found::{Found, Text, reserved_found};
@@ -101,7 +101,8 @@ impl Code {
     ) -> Result<Found<'a>, ReservedError>
         requires fits { Fits self.now options.now scratch.old }
         requires short { length subject.now < 4294967295 }
-        ensures* peak { sem 𝓛 (Leaves scratch.entry options.now.frame_limit) }
+        ensures* leaves { sem 𝓛 (Leaves scratch.entry
+            (search_of self.now options.now subject.now start (λ block. pos 0)) ⊤) }
         ensures found { IfOk result
             (IsFound (search_of self.now options.now subject.now start (λ block. pos 0))) }
         ensures code { IfOk result (λ f. (f.code ≡ self.now) × (f.subject ≡ subject.now)) }
@@ -129,7 +130,12 @@ impl Code {
         ensures refused { IfErr result (λ e. IsMatchError
             (search_of self.now options.now subject.now start (λ block. pos 0))
             (as_match_error e)) }
+        ensures last_mark { scratch.new.last_mark ≡ mark_left
+            (search_of self.now options.now subject.now start (λ block. pos 0))
+            scratch.old.last_mark }
         ensures peak { scratch.new.peak ≤ max scratch.old.peak options.now.frame_limit }
+        ensures groups { scratch.new.groups ≡ scratch.old.groups }
+        ensures frames { scratch.new.frames ≡ scratch.old.frames }
     {
         if let Err(e) = self.test_start(subject, start) {
             return Err(refusal_of(e));

@@ -1,6 +1,6 @@
 //! Searches that hold the workspace. It comes first, since a call can say what it leaves of its
 //! first parameter alone.
-ghost use Rattle.std.specs.Prelude.{◌≡◌, ◌<◌, IfOk, IfErr, OnOk, length, pos, None};
+ghost use Rattle.std.specs.Prelude.{◌≡◌, ⊤, ◌<◌, IfOk, IfErr, OnOk, length, pos, None};
 ghost use Rattle.std.specs.Borrow.{sem};
 ghost use Rattle.pcre_io.specs.declared.callouts.Block.{Block};
 ghost use Rattle.uni_text.specs.Characters.{IsChecked};
@@ -10,7 +10,7 @@ ghost use Rattle.pcre2_api.specs.Matched.{search_of, shown_by, AreParts, IsFound
 ghost use Rattle.pcre2_api.specs.Matched.{HasShown};
 ghost use Rattle.pcre2_api.specs.Reserved.{Fits, IsOfMatch, as_match_error};
 ghost use Rattle.pcre2_api.specs.Starts.{start_fault};
-ghost use Rattle.pcre2_api.specs.Holding.{Leaves, parts_of};
+ghost use Rattle.pcre2_api.specs.Holding.{HasAnswer, Leaves, parts_of};
 
 use crate::code::Code;
 use crate::found::Held;
@@ -31,7 +31,9 @@ pub(crate) fn seek<'a, C: Callouts>(
     calls: &mut C,
 ) -> Result<Held<'a>, MatchError>
     requires short { length subject.now < 4294967295 }
-    ensures* peak { sem 𝓛 (Leaves scratch.entry options.now.frame_limit) }
+    ensures* leaves { sem 𝓛 (Leaves scratch.entry
+        (search_of code.now options.now subject.now start (C.answers calls.old))
+        (HasAnswer result)) }
     ensures parts { IfOk result (λ h. AreParts (parts_of h)) }
     ensures found { IfOk result (λ h. IsFound
         (search_of code.now options.now subject.now start (C.answers calls.old)) (parts_of h)) }
@@ -76,13 +78,17 @@ pub(crate) fn seek_again<'a, C: Callouts>(
 ) -> Result<Held<'a>, MatchError>
     requires checked { IsChecked code.now.tree.options.utf subject.now }
     requires short { length subject.now < 4294967295 }
-    ensures* peak { sem 𝓛 (Leaves scratch.entry options.now.frame_limit) }
+    ensures* leaves { sem 𝓛 (Leaves scratch.entry
+        (search_of code.now options.now subject.now start (C.answers calls.old))
+        (HasAnswer result)) }
     ensures parts { IfOk result (λ h. AreParts (parts_of h)) }
     ensures found { IfOk result (λ h. IsFound
         (search_of code.now options.now subject.now start (C.answers calls.old)) (parts_of h)) }
     ensures code { IfOk result (λ h. (h.code.now ≡ code.now) × (h.subject.now ≡ subject.now)) }
     ensures refused { IfErr result (IsMatchError
         (search_of code.now options.now subject.now start (C.answers calls.old))) }
+    ensures starts { start_fault code.now.tree.options.utf subject.now start ≡ None
+        → AreAlike (search_of code.now options.now subject.now start (C.answers calls.old)) }
     ensures rule { (block : Block) → C.answers calls.new block ≡ C.answers calls.old block }
     ensures seen { OnOk result (C.seen calls.new
         ≡ shown_by
@@ -92,7 +98,10 @@ pub(crate) fn seek_again<'a, C: Callouts>(
         (shown_by
         (search_of code.now options.now subject.now start (C.answers calls.old))
         (C.seen calls.old))) }
+    ensures reserved { Fits code.now options.now scratch.old
+        → IsQuiet C.refuses (C.answers calls.old) → IfErr result IsOfMatch }
 {
+    code.starts_are_alike(subject, start, options);
     test_place(code.options().utf, subject, start)?;
     match code.find(subject, start, options, scratch, calls) {
         Ok(text) => Ok(Held {
@@ -115,7 +124,8 @@ pub(crate) fn seek_reserved<'a>(
 ) -> Result<Held<'a>, ReservedError>
     requires fits { Fits code.now options.now scratch.old }
     requires short { length subject.now < 4294967295 }
-    ensures* peak { sem 𝓛 (Leaves scratch.entry options.now.frame_limit) }
+    ensures* leaves { sem 𝓛 (Leaves scratch.entry
+        (search_of code.now options.now subject.now start (λ block. pos 0)) ⊤) }
     ensures parts { IfOk result (λ h. AreParts (parts_of h)) }
     ensures found { IfOk result (λ h. IsFound
         (search_of code.now options.now subject.now start (λ block. pos 0)) (parts_of h)) }

@@ -1,15 +1,18 @@
 //! Replacing what is found (pcre2api, "Creating a new string with substitutions").
-ghost use Rattle.std.specs.Prelude.{◌≡◌, ◌≤◌, ◌<◌, ◌++◌, ◌&&◌, not, true, false, Ok, IfOk, IfErr, OnOk, drop, length};
+ghost use Rattle.std.specs.Prelude.{◌≡◌, ◌≤◌, ◌<◌, ◌++◌, ◌&&◌, not, true, false, Ok, IfOk, IfErr, OnOk, drop, length, max, pos};
 ghost use Rattle.std.specs.Str.{is_utf8};
 ghost use Rattle.std.specs.Str.Lossy.{utf8_valid_len};
 ghost use Rattle.uni_text.specs.Characters.{IsChecked};
 ghost use Rattle.pat_tree.specs.Pattern.{pattern_of};
 ghost use Rattle.pcre2_errors.specs.declared.subst_error.SubstError.TheVariants as refusal;
+ghost use Rattle.pcre2_api.specs.Matched.{search_of, AreParts, IsFound, IsMatchError};
+ghost use Rattle.pcre2_api.specs.Holding.{found_in};
 ghost use Rattle.pcre2_api.specs.Walks.{answer};
 ghost use Rattle.pcre2_api.specs.Substituted.{kept, reading, written_for, all_replaced, searches, substituted, work_of, added_by, search_refusal, IsAdded, IsSearch, Tells, TellsMatch, Refuses};
 
 use crate::code::Code;
-use crate::found::Found;
+use crate::found::{Found, Text};
+use crate::starts::test_place;
 use crate::walk::{matching_at, place_behind};
 use match_drive::Scratch;
 use pat_tree::{ByteList, MatchOptions, PartialMode};
@@ -77,7 +80,8 @@ struct Rewriting<'a> {
 impl Code {
     /// Replaces the first match of a subject from a start on, or all of them (pcre2_substitute).
     /// Text that isn't matched is kept, and so is that before the start. Partial matching is taken
-    /// as off. Needs a subject of fewer than 4,294,967,295 bytes.
+    /// as off. The workspace keeps its room, and has never more records than the frame limit, or than
+    /// it had. Needs a subject of fewer than 4,294,967,295 bytes.
     pub fn substitute(
         &self,
         alloc: Global,
@@ -93,6 +97,9 @@ impl Code {
             self.now.tree.names options.now how.now subject.now start replacement.now ≡ Ok s) }
         ensures refused { IfErr result (Refuses (substituted (pattern_of self.now.tree)
             self.now.tree.names options.now how.now subject.now start replacement.now)) }
+        ensures peak { scratch.new.peak ≤ max scratch.old.peak options.now.frame_limit }
+        ensures groups { scratch.new.groups ≡ scratch.old.groups }
+        ensures frames { scratch.new.frames ≡ scratch.old.frames }
     {
         if let Err(e) = self.test_start(subject, start) {
             return Err(refusal_of(e));
@@ -176,6 +183,31 @@ impl Rewriting<'_> {
         Ok(())
     }
 
+    /// The text of the next match from a place on, whose captures are in the workspace. Callouts are passed over.
+    fn find(
+        &self,
+        at: usize,
+        options: &MatchOptions,
+        scratch: &mut Scratch,
+    ) -> Result<Text, MatchError>
+        requires checked { IsChecked self.now.code.now.tree.options.utf self.now.subject.now }
+        requires short { length self.now.subject.now < 4294967295 }
+        ensures parts { IfOk result (λ t.
+            AreParts (found_in self.now.code.now self.now.subject.now t scratch.new)) }
+        ensures found { IfOk result (λ t. IsFound
+            (search_of self.now.code.now options.now self.now.subject.now at (λ block. pos 0))
+            (found_in self.now.code.now self.now.subject.now t scratch.new)) }
+        ensures refused { IfErr result (IsMatchError
+            (search_of self.now.code.now options.now self.now.subject.now at (λ block. pos 0))) }
+        ensures peak { scratch.new.peak ≤ max scratch.old.peak options.now.frame_limit }
+        ensures groups { scratch.new.groups ≡ scratch.old.groups }
+        ensures frames { scratch.new.frames ≡ scratch.old.frames }
+    {
+        test_place(self.code.options().utf, self.subject, at)?;
+        self.code
+            .find(self.subject, at, options, scratch, &mut NoCallouts)
+    }
+
     /// Searches from a place on, and adds the text before the match and what replaces it.
     fn replace_next(
         &self,
@@ -196,13 +228,14 @@ impl Rewriting<'_> {
             self.now.subject.now again at))) }
         ensures refused { IfErr result (Refuses (added_by (work_of self.now) from (answer
             (pattern_of self.now.code.now.tree) self.now.options self.now.subject.now again at))) }
+        ensures peak { scratch.new.peak ≤ max scratch.old.peak self.now.options.frame_limit }
+        ensures groups { scratch.new.groups ≡ scratch.old.groups }
+        ensures frames { scratch.new.frames ≡ scratch.old.frames }
     {
         let options = matching_at(&self.options, again);
-        match self
-            .code
-            .match_again(self.subject, at, &options, scratch, &mut NoCallouts)
-        {
-            Ok(found) => {
+        match self.find(at, &options, scratch) {
+            Ok(text) => {
+                let found = Found::new(self.code, self.subject, scratch, text);
                 self.add(out, from, &found)?;
                 Ok(found_at(&found))
             }
@@ -251,6 +284,9 @@ impl Rewriting<'_> {
             all_replaced (work_of self.now) self.now.options start ≡ Ok s) }
         ensures refused { IfErr result (Refuses
             (all_replaced (work_of self.now) self.now.options start)) }
+        ensures peak { scratch.new.peak ≤ max scratch.old.peak self.now.options.frame_limit }
+        ensures groups { scratch.new.groups ≡ scratch.old.groups }
+        ensures frames { scratch.new.frames ≡ scratch.old.frames }
     {
         let searches = self.searches();
         let mut text = Vec::new(alloc);

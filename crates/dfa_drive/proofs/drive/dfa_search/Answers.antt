@@ -3,6 +3,7 @@ use Rattle.match_items.specs.Subjects.{IsTextPlace}
 use Rattle.ordered_search.specs.Places.{last_place}
 use Rattle.match_drive.specs.frame_board.Ready.{setting_for}
 use Rattle.match_drive.specs.match_starts.Asked.{passed_over}
+use Rattle.dfa_drive.proofs.Agreeing.{agrees}
 use Rattle.dfa_drive.proofs.Walking.{walk_begins, walk_ends, walk_on, walk_over, later_on}
 use Rattle.dfa_drive.proofs.drive.dfa_search.Goals as goal
 
@@ -57,3 +58,8 @@ returns-clause-answer g c =
     walk_over (setting_for c.args.ready.now.tree.now c.args.view.now passed_over)
     c.args.view.now.matching.now.dfa_shortest c.places.next
     c.places.invariant.left c.in_default.is
+
+pub returns-in-Some-2-clause-agrees : goal.returns-in-Some-2-clause-agrees
+returns-in-Some-2-clause-agrees g c =
+    agrees (setting_for c.args.ready.now.tree.now c.args.view.now passed_over) c.in-Some-2.answer
+    (returns-in-Some-2-clause-answer g c)

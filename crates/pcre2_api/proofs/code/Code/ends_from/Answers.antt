@@ -8,6 +8,7 @@ use Rattle.dfa_drive.specs.dfa_ends.DfaAnswer.{EndsFrom, NoMatch, PartialFrom, d
 use Rattle.pcre2_api.specs.Matched.{search_of}
 use Rattle.pcre2_errors.specs.DfaErrors.{error_of}
 use Rattle.pcre2_api.specs.DfaMatched.{IsDfaError}
+use Rattle.dfa_drive.proofs.Agreeing.{agree_from}
 use Rattle.pcre2_api.proofs.Starting.{begun-text, begun-place}
 use Rattle.pcre2_api.proofs.DfaMatching.{barred, answered}
 use Rattle.pcre2_api.proofs.code.Code.ends_from.Goals as goal
@@ -44,6 +45,11 @@ returns-in-Ends-clause-found g c =
     (λ (t : TreeParts). dfa_answer (setting_in t matching subject c.args.start passed_over) matching.dfa_shortest ≡ answer)
     c.ready-ready.ensures.tree (rw c.in-Ends.is at c.in_ok-answer.ensures.answer) in
     (answered asked c.requires.begun answer served is, rw c.in-Ends.is at c.in_ok-answer.ensures.placed)
+
+pub returns-in-Ends-clause-agrees : goal.returns-in-Ends-clause-agrees
+returns-in-Ends-clause-agrees g c =
+    agree_from (search_of c.args.self.now c.args.options.now c.args.subject.now c.args.start passed_over)
+    c.in-Ends.start c.in-Ends.ends (returns-in-Ends-clause-found g c).0.answer
 
 pub returns-in-NoMatch-clause-refused : goal.returns-in-NoMatch-clause-refused
 returns-in-NoMatch-clause-refused g c =

@@ -1,13 +1,17 @@
 -- The workspace goes to the search, what it holds goes into the match, and what the search says is said of the match.
-use Rattle.pcre2_api.proofs.LendingSteps.{◌≡◌, [], ◌∷◌, refl, w64, proved, id⊢, emp, Fml, ftrue, fsep, flft, Dict, named, a_type, dcons, dnil, inst_fn, tables, fact, fact_i, ‵, raw, ◌⊛◌, some, later, ◌$◌, ◌∵◌, !, qed, done, move, keep, drop, use0, use1, use2, split, join, pick, await, suffices, group, enter, addr, stop, no_more, and_then, returns, alloc_all, pass_all, free_all, look_at, get, through, sets, lands_as, u8, usize, RefOf, RefMutOf, SliceRefOf, yes, no, Is, shows, param, bounded, uint_vals, uint_Tells, RattleType, MutRef, ShrRef, mut_vals, mut_Tells, shr_vals, shr_Tells, Slot, type_at, plain, ShrSlice, shr_slice_vals, shr_slice_Tells, nothing, heard, peeks, calls_at, Lasts, lasts, at_exit, triple_of, Stays, walk_of, stay_dropped, gave_ref, Goes-dropped, Goes-gave_ref, ends_at, framed}
-use Rattle.std.specs.Prelude.{IfOk, IfErr, OnOk}
+use Rattle.pcre2_api.proofs.LendingSteps.{◌≡◌, [], ◌∷◌, refl, subst, w64, proved, id⊢, emp, ent, Fml, ftrue, fsep, flft, Dict, named, a_type, dcons, dnil, inst_fn, tables, fact, fact_i, Item, mean, ‵, raw, ◌⊛◌, some, later, ◌$◌, ◌∵◌, !, qed, done, move, keep, drop, use0, use1, use2, split, join, pick, await, suffices, group, enter, addr, stop, no_more, and_then, returns, alloc_all, pass_all, free_all, look_at, get, through, sets, lands_as, u8, usize, RefOf, RefMutOf, SliceRefOf, yes, no, Is, shows, param, bounded, uint_vals, uint_Tells, RattleType, MutRef, ShrRef, mut_vals, mut_Tells, shr_vals, shr_Tells, Slot, type_at, plain, ShrSlice, shr_slice_vals, shr_slice_Tells, nothing, heard, peeks, calls_at, Lasts, lasts, at_exit, triple_of, Stays, walk_of, stay_dropped, gave_ref, Goes-dropped, Goes-gave_ref, ends_at, framed}
+use Rattle.std.specs.Prelude.{IfOk, IfErr, OnOk, None}
 use Rattle.std.proofs.result.Result.TheLaws.{the_row_laws as result_laws}
 use Rattle.pcre_io.specs.declared.callouts.Block.{Block}
 use Rattle.pcre_io.specs.declared.callouts.Callouts.{Ghosts}
+use Rattle.match_drive.specs.frame_state.Room.{IsQuiet}
 use Rattle.match_drive.specs.frame_machine.contracts.scratch.Scratch.{the_row as workspace}
+use Rattle.match_drive.specs.Starts.{AreAlike}
 use Rattle.pat_tree.specs.contracts.options.MatchOptions.{the_row as matching}
 use Rattle.pcre2_api.specs.Matched.{AreParts, IsFound, IsMatchError, HasShown, search_of, shown_by}
-use Rattle.pcre2_api.specs.Holding.{Leaves, parts_of, as_found}
+use Rattle.pcre2_api.specs.Reserved.{Fits, IsOfMatch}
+use Rattle.pcre2_api.specs.Starts.{start_fault}
+use Rattle.pcre2_api.specs.Holding.{HasAnswer, Leaves, parts_of, as_found}
 use Rattle.pcre2_api.specs.contracts.code.Code.{the_row as compiled}
 use Rattle.pcre2_api.specs.contracts.found.Held as held-type
 use Rattle.pcre2_api.specs.contracts.found.Found as found-type
@@ -15,7 +19,7 @@ use Rattle.pcre2_api.proofs.found.Held.TheLaws as held_laws
 use Rattle.pcre2_api.proofs.found.Found.TheLaws as found_laws
 use Rattle.pcre2_errors.specs.contracts.error.MatchError as error-type
 use Rattle.pcre2_errors.proofs.error.MatchError.TheLaws as error_laws
-use Rattle.pcre2_api.proofs.Lending.{if_found, on_found, if_refused}
+use Rattle.pcre2_api.proofs.Lending.{if_found, on_found, if_refused, same_answer}
 use Rattle.pcre2_api.specs.contracts.code.Code.match_again as f
 use Rattle.pcre2_api.proofs.code.Code.match_again.Statement.{statement}
 use Rattle.pcre2_api.proofs.code.Code.match_again.Code as code
@@ -89,16 +93,18 @@ match_again_spec 𝓤 𝓛 𝓜 𝓡 wired C L gh d bound =
     await ! tt $ pick ! (λ r. split ! $ split ! $ split ! $ move ! (3 ∷ []) $ pick ! (λ ws. split ! $ move ! (1 ∷ []) $
     -- [what the search ensures; what is left; the token; the other tokens; what it holds; the locals]
     let now : C.Denot = ws.1.1.1.1.1.0 in let seen = gh.seen a5.now in
-    let Left = ‵ (Leaves a4 a3.now.frame_limit) in
+    let Left : Type 0 → Item 𝓤 = λ Answered. ‵ (Leaves a4 S Answered) in
     let Parts-r : Type 0 = IfOk r (λ held. AreParts (parts_of held)) in
     let Found-r : Type 0 = IfOk r (λ held. IsFound S (parts_of held)) in
     let Code-r : Type 0 = IfOk r (λ held. (held.code.now ≡ a.0.now) × (held.subject.now ≡ a1.now)) in
     let Refused-r : Type 0 = IfErr r (IsMatchError S) in
+    let Starts-r : Type 0 = start_fault a.0.now.tree.options.utf a1.now a2 ≡ None → AreAlike S in
     let Rule-r : Type 0 = (block : Block) → gh.answers now block ≡ gh.answers a5.now block in
     let Seen-r : Type 0 = OnOk r (gh.seen now ≡ shown_by S seen) in
     let Shown-r : Type 0 = IfErr r (λ e. HasShown e (gh.seen now) (shown_by S seen)) in
-    use1 𝓛 (Left ⊛ raw (fact 𝓤 Parts-r) ⊛ raw (fact 𝓤 Found-r) ⊛ raw (fact 𝓤 Code-r) ⊛ raw (fact 𝓤 Refused-r) ⊛ raw (fact 𝓤 Rule-r) ⊛ raw (fact 𝓤 Seen-r) ⊛ raw (fact 𝓤 Shown-r)) (id⊢ 𝓤 _) $
-    split ! $ move ! (1 ∷ []) $ split ! $ heard ! Parts-r (λ parts-is. split ! $ heard ! Found-r (λ found-is. split ! $ heard ! Code-r (λ code-is. split ! $ heard ! Refused-r (λ refused-is. split ! $ heard ! Rule-r (λ rule-is. split ! $ heard ! Seen-r (λ seen-is. heard ! Shown-r (λ shown-is.
+    let Reserved-r : Type 0 = Fits a.0.now a3.now a4.now → IsQuiet gh.refuses (gh.answers a5.now) → IfErr r IsOfMatch in
+    use1 𝓛 (Left (HasAnswer r) ⊛ raw (fact 𝓤 Parts-r) ⊛ raw (fact 𝓤 Found-r) ⊛ raw (fact 𝓤 Code-r) ⊛ raw (fact 𝓤 Refused-r) ⊛ raw (fact 𝓤 Starts-r) ⊛ raw (fact 𝓤 Rule-r) ⊛ raw (fact 𝓤 Seen-r) ⊛ raw (fact 𝓤 Shown-r) ⊛ raw (fact 𝓤 Reserved-r)) (id⊢ 𝓤 _) $
+    split ! $ move ! (1 ∷ []) $ split ! $ heard ! Parts-r (λ parts-is. split ! $ heard ! Found-r (λ found-is. split ! $ heard ! Code-r (λ code-is. split ! $ heard ! Refused-r (λ refused-is. split ! $ heard ! Starts-r (λ starts-is. split ! $ heard ! Rule-r (λ rule-is. split ! $ heard ! Seen-r (λ seen-is. split ! $ heard ! Shown-r (λ shown-is. heard ! Reserved-r (λ reserved-is.
     -- [what the workspace ends as; what is left; the token; the other tokens; what it holds; the locals]
     move ! (4 ∷ []) $ peeks ! Mid (Is Mid) (shows 𝓛 Mid) r (v ∷ []) (λ is.
     lands_as ! refl refl (((result_laws (held-type.the_row (record { mir = named 0; lft = κs.0 })) error-type.the_row (held_laws.the_row_laws (record { mir = named 0; lft = κs.0 })) error_laws.the_row_laws).lawful 𝓛).typed r (v ∷ []) is).0 $
@@ -113,10 +119,13 @@ match_again_spec 𝓤 𝓛 𝓜 𝓡 wired C L gh d bound =
     lands_as ! refl refl (((result_laws (found-type.the_row (record { mir = named 0; lft = κs.0 })) error-type.the_row (found_laws.the_row_laws (record { mir = named 0; lft = κs.0 })) error_laws.the_row_laws).lawful 𝓛).typed x (u ∷ []) is').0 $
     returns ! (look_at ! 0 refl) $ free_all ! refl $
     suffices ! _ (ends_at 𝓛 T st c y u x (tt, (tt, (tt, (tt, (tt, (now, tt)))))) (tt, (tt, (tt, (tt, (tt, (tt, tt))))))) $
-    let Shown-x : Type 0 = IfErr x (λ e. HasShown e (gh.seen now) (shown_by S seen)) in use0 𝓛 (raw (fact 𝓤 Shown-x)) (fact_i 𝓤 Shown-x (emp 𝓤) (if_refused r x e (λ e. HasShown e (gh.seen now) (shown_by S seen)) shown-is)) $
+    let Reserved-x : Type 0 = Fits a.0.now a3.now a4.now → IsQuiet gh.refuses (gh.answers a5.now) → IfErr x IsOfMatch in use0 𝓛 (raw (fact 𝓤 Reserved-x)) (fact_i 𝓤 Reserved-x (emp 𝓤) (λ fits quiet. if_refused r x e IsOfMatch (reserved-is fits quiet))) $
+    let Shown-x : Type 0 = IfErr x (λ e. HasShown e (gh.seen now) (shown_by S seen)) in use0 𝓛 (raw (fact 𝓤 Shown-x)) (fact_i 𝓤 Shown-x (emp 𝓤) (if_refused r x e (λ e. HasShown e (gh.seen now) (shown_by S seen)) shown-is)) $ join ! $
     let Seen-x : Type 0 = OnOk x (gh.seen now ≡ shown_by S seen) in use0 𝓛 (raw (fact 𝓤 Seen-x)) (fact_i 𝓤 Seen-x (emp 𝓤) (on_found r x e (gh.seen now ≡ shown_by S seen) seen-is)) $ join ! $
     let Rule-x : Type 0 = (block : Block) → gh.answers now block ≡ gh.answers a5.now block in use0 𝓛 (raw (fact 𝓤 Rule-x)) (fact_i 𝓤 Rule-x (emp 𝓤) rule-is) $ join ! $
+    let Starts-x : Type 0 = start_fault a.0.now.tree.options.utf a1.now a2 ≡ None → AreAlike S in use0 𝓛 (raw (fact 𝓤 Starts-x)) (fact_i 𝓤 Starts-x (emp 𝓤) starts-is) $ join ! $
     let Refused-x : Type 0 = IfErr x (IsMatchError S) in use0 𝓛 (raw (fact 𝓤 Refused-x)) (fact_i 𝓤 Refused-x (emp 𝓤) (if_refused r x e (IsMatchError S) refused-is)) $ join ! $
     let Code-x : Type 0 = IfOk x (λ m. (m.code ≡ a.0.now) × (m.subject ≡ a1.now)) in use0 𝓛 (raw (fact 𝓤 Code-x)) (fact_i 𝓤 Code-x (emp 𝓤) (if_found r x e (λ m. (m.code ≡ a.0.now) × (m.subject ≡ a1.now)) code-is)) $ join ! $
     let Found-x : Type 0 = IfOk x (IsFound S) in use0 𝓛 (raw (fact 𝓤 Found-x)) (fact_i 𝓤 Found-x (emp 𝓤) (if_found r x e (IsFound S) found-is)) $ join ! $
-    move ! (4 ∷ 0 ∷ []) $ join ! $ move ! (2 ∷ 5 ∷ []) $ join ! $ keep ! (0 ∷ 4 ∷ 2 ∷ 1 ∷ []) $ group ! 3 $ done !))))))))))))))))))
+    move ! (4 ∷ []) $ use1 𝓛 (Left (HasAnswer x)) (subst (λ Answered. ent 𝓤 (mean 𝓛 (Left (HasAnswer r))) (mean 𝓛 (Left Answered))) (same_answer r x e) (id⊢ 𝓤 _)) $
+    join ! $ move ! (2 ∷ 5 ∷ []) $ join ! $ keep ! (0 ∷ 4 ∷ 2 ∷ 1 ∷ []) $ group ! 3 $ done !))))))))))))))))))))

@@ -1,6 +1,6 @@
 -- The workspace goes to the search, what it holds goes into the match, and what the search says is said of the match.
 use Rattle.pcre2_api.proofs.LendingSteps.{◌≡◌, [], ◌∷◌, refl, w64, proved, id⊢, emp, Fml, ftrue, fsep, flft, named, tables, fact, fact_i, ‵, raw, ◌⊛◌, some, later, ◌$◌, ◌∵◌, !, qed, done, move, keep, drop, use0, use1, use2, split, join, pick, await, suffices, group, enter, addr, stop, no_more, and_then, returns, alloc_all, pass_all, free_all, look_at, get, through, sets, lands_as, u8, usize, RefOf, RefMutOf, SliceRefOf, yes, no, Is, shows, uint_vals, uint_Tells, RattleType, MutRef, ShrRef, mut_vals, mut_Tells, shr_vals, shr_Tells, Slot, type_at, plain, ShrSlice, shr_slice_vals, shr_slice_Tells, nothing, heard, peeks, calls_at, Lasts, lasts, at_exit, triple_of, Stays, walk_of, stay_dropped, Goes-dropped, ends_at, framed}
-use Rattle.std.specs.Prelude.{IfOk, IfErr, pos}
+use Rattle.std.specs.Prelude.{⊤, IfOk, IfErr, pos}
 use Rattle.std.proofs.result.Result.TheLaws.{the_row_laws as result_laws}
 use Rattle.match_drive.specs.frame_machine.contracts.scratch.Scratch.{the_row as workspace}
 use Rattle.pat_tree.specs.contracts.options.MatchOptions.{the_row as matching}
@@ -80,7 +80,7 @@ match_reserved_spec 𝓤 𝓛 𝓜 𝓡 wired =
     some (λ (ws : Lasts g.ended κs aG). ‵ (lasts g.ended κs aG ws) ⊛ raw ((g.clauses 𝓛 𝓜.mem 𝓡.returns κs aG).ensures tt r (at_exit g.ended κs aG ws)))))) (id⊢ 𝓤 _) $
     await ! tt $ pick ! (λ r. split ! $ split ! $ split ! $ move ! (3 ∷ []) $ pick ! (λ ws. split ! $ move ! (1 ∷ []) $
     -- [what the search ensures; what is left; the token; the other tokens; what it holds; the locals]
-    let Left = ‵ (Leaves a4 a3.now.frame_limit) in
+    let Left = ‵ (Leaves a4 S ⊤) in
     let Parts-r : Type 0 = IfOk r (λ held. AreParts (parts_of held)) in
     let Found-r : Type 0 = IfOk r (λ held. IsFound S (parts_of held)) in
     let Code-r : Type 0 = IfOk r (λ held. (held.code.now ≡ a.0.now) × (held.subject.now ≡ a1.now)) in

@@ -1,5 +1,6 @@
-use Rattle.std.proofs.Common.{◌≡◌, ◌∙◌, Err, IfErr, length, sym, ap, subst, rules}
+use Rattle.std.proofs.Common.{◌≡◌, ◌∙◌, Err, IfErr, length, pos, sym, ap, subst, rules}
 use Rattle.pat_tree.specs.Pattern.{pattern_of}
+use Rattle.pcre2_api.specs.Matched.{search_of, IsFound}
 use Rattle.pcre2_api.specs.Walks.{answer, answer_at}
 use Rattle.pcre2_api.specs.Substituted.{work_of, added_by, IsAdded, Refuses}
 use Rattle.pcre2_api.proofs.Walking.{Says, answer-found, answer-error, told-as, told-match}
@@ -11,9 +12,10 @@ returns-in_err-add-in-Ok-clause-refused c =
     let code = c.args.self.now.code.now in
     let subject = c.args.self.now.subject.now in
     let from = c.args.from in
-    let f = c.in-Ok.found in
+    let f = c.new-found.result in
+    let is = subst (IsFound (search_of code c.matching_at-options.result subject c.args.at (λ block. pos 0))) (sym c.new-found.ensures) c.in-Ok.ensures.found in
     let asks = ap (λ m. answer_at (pattern_of code.tree) m subject c.args.at) c.matching_at-options.ensures in
-    let here = sym asks ∙ answer-found code c.matching_at-options.result subject c.args.at f c.in-Ok.ensures.found in
+    let here = sym asks ∙ answer-found code c.matching_at-options.result subject c.args.at f is in
     let e = c.in_err-add-in-Ok.field-0.0 in
     let same : c.from_residual.result ≡ Err e = search rules in
     subst (λ r. IfErr r (Refuses (added_by w from (answer w.pattern c.args.self.now.options subject c.args.again c.args.at)))) (sym same)
@@ -23,19 +25,21 @@ pub returns-in_ok-add-in-Ok-clause-comes : goal.returns-in_ok-add-in-Ok-clause-c
 returns-in_ok-add-in-Ok-clause-comes c =
     let code = c.args.self.now.code.now in
     let subject = c.args.self.now.subject.now in
-    let f = c.in-Ok.found in
+    let f = c.new-found.result in
+    let is = subst (IsFound (search_of code c.matching_at-options.result subject c.args.at (λ block. pos 0))) (sym c.new-found.ensures) c.in-Ok.ensures.found in
     let asks = ap (λ m. answer_at (pattern_of code.tree) m subject c.args.at) c.matching_at-options.ensures in
-    let here = sym asks ∙ answer-found code c.matching_at-options.result subject c.args.at f c.in-Ok.ensures.found in
-    told-match (length subject) _ f.outcome c.found_at.result here c.found_at.ensures c.in-Ok.ensures.found.placed.within
+    let here = sym asks ∙ answer-found code c.matching_at-options.result subject c.args.at f is in
+    told-match (length subject) _ f.outcome c.found_at.result here c.found_at.ensures is.placed.within
 
 pub returns-in_ok-add-in-Ok-clause-added : goal.returns-in_ok-add-in-Ok-clause-added
 returns-in_ok-add-in-Ok-clause-added c =
     let w = work_of c.args.self.now in
     let code = c.args.self.now.code.now in
     let subject = c.args.self.now.subject.now in
-    let f = c.in-Ok.found in
+    let f = c.new-found.result in
+    let is = subst (IsFound (search_of code c.matching_at-options.result subject c.args.at (λ block. pos 0))) (sym c.new-found.ensures) c.in-Ok.ensures.found in
     let asks = ap (λ m. answer_at (pattern_of code.tree) m subject c.args.at) c.matching_at-options.ensures in
-    let here = sym asks ∙ answer-found code c.matching_at-options.result subject c.args.at f c.in-Ok.ensures.found in
+    let here = sym asks ∙ answer-found code c.matching_at-options.result subject c.args.at f is in
     subst (λ a. IsAdded c.args.out.now.items c.add.new.out.items (added_by w c.args.from a)) (sym here) c.in_ok-add-in-Ok.ensures.added
 
 pub returns-in-Err-clause-comes : goal.returns-in-Err-clause-comes
