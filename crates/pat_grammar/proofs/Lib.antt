@@ -3,3 +3,7 @@ pub mod Ranges
 pub mod Spots
 pub mod Items
 pub mod Starting
+pub mod Listed
+pub mod Likes
+pub mod Bounds
+pub mod Depths

@@ -8,3 +8,5 @@ pub mod Parts
 pub mod Leads
 pub mod Reading
 pub mod Places
+pub mod Nesting
+pub mod Laws

@@ -1,5 +1,5 @@
 -- What each token begins, outside classes.
-use Rattle.std.specs.Prelude.{ℕ, zero, suc, ◌+◌, min, Bool, true, false, not, ◌&&◌, List, [], ◌∷◌, ◌++◌, length, nat_le, Option, Some, None, Result, Ok, Err, slice_range, if◌then◌else◌}
+use Rattle.std.specs.Prelude.{ℕ, zero, suc, ◌+◌, min, ℤ, pos, negsuc, Bool, true, false, not, ◌&&◌, ◌==◌, List, [], ◌∷◌, ◌++◌, length, nat_le, Option, Some, None, Result, Ok, Err, slice_range, if◌then◌else◌}
 use Rattle.pat_tree.specs.declared.nodes.Item.TheVariants as item
 use Rattle.pat_tree.specs.declared.nodes.AnchorKind.{AnchorKind}
 use Rattle.pat_tree.specs.declared.nodes.AnchorKind.TheVariants as kind
@@ -179,10 +179,24 @@ abbrev pub look_by : ℕ → List Nested → Token → State → State → Resul
 look_by at lead (token.Open kind) here after = asserted_if at lead (kept_look kind) here after
 look_by at lead _ here after = fault 128 at
 
--- No other fault is told of a token that isn't such a lookaround.
+abbrev pub has_number : ℕ → ℤ → Bool
+has_number n (pos m) = m == n
+has_number n (negsuc m) = false
+
+abbrev pub malformed : ℕ → Fault
+malformed at = record { number = pos 128; at = at }
+
+-- Of the tokens before the lookaround the fault of a comment that isn't closed is told, and where no callout stands yet
+-- that of a callout's number; of any other token none is.
+abbrev pub fault_of_look : ℕ → Fault → Fault
+fault_of_look at f = if has_number 118 f.number then f else malformed at
+
+abbrev pub fault_of_test : ℕ → Fault → Fault
+fault_of_test at f = if has_number 138 f.number then f else fault_of_look at f
+
 abbrev pub look_at : ℕ → List Nested → Result Item Fault → Result Assertion Fault
 look_at at lead (Ok (token, here, after)) = look_by at lead token here after
-look_at at lead (Err f) = fault 128 at
+look_at at lead (Err f) = Err (fault_of_look at f)
 
 -- AUTO_CALLOUT has a callout before the lookaround, unless one is written there.
 abbrev pub automatic_lead : Bool → List ℕ → State → List Nested
@@ -204,7 +218,7 @@ asserted_by calling text n at found here after =
 
 abbrev pub settled : Bool → List ℕ → ℕ → ℕ → Result Item Fault → Result Assertion Fault
 settled calling text n at (Ok (token, here, after)) = asserted_by calling text n at token here after
-settled calling text n at (Err f) = fault 128 at
+settled calling text n at (Err f) = Err (fault_of_test at f)
 
 -- the lookaround that a conditional group at this place tests, past comments, ignored white space, `\Q` and `\E`
 unfoldable pub assertion : Bool → List ℕ → ℕ → ℕ → State → Result Assertion Fault

@@ -1,10 +1,12 @@
 -- What the definitions give at the places of a cursor.
-use Rattle.std.specs.Prelude.{◌≡◌, ℕ, ◌+◌, ◌<◌, ℤ, pos, Bool, false, not, ◌&&◌, List, [], length, None, Result, Err, IsTrue, ◌⊎◌}
+use Rattle.std.specs.Prelude.{◌≡◌, ℕ, ◌+◌, ◌<◌, ◌≤◌, ℤ, pos, negsuc, Bool, false, not, ◌&&◌, ◌==◌, List, [], ◌∷◌, ◌++◌, length, None, Result, Err, IsTrue, ◌⊎◌}
+use Rattle.std.specs.List.{list_any}
 use Rattle.pat_tree.specs.declared.nodes.Part.{Part}
 use Rattle.token_parts.specs.declared.fault.Fault.{Fault}
 use Rattle.token_parts.specs.declared.token.LexFlags.{LexFlags}
 use Rattle.token_parts.specs.declared.token.Token.{Token}
 use Rattle.token_parts.specs.declared.token.Token.TheVariants.{ClassEnd}
+use Rattle.token_parts.specs.Tell as own
 use Rattle.token_parts.specs.Tell.{is_own}
 use Rattle.pat_grammar.specs.State.{State, Reads, flags_of}
 use Rattle.pat_grammar.specs.Classes.{part_then, range_or_hyphen, from_character, from_set, from_item}
@@ -86,6 +88,29 @@ Refuses read Memory = Unit {0}
 -- what holds of the number and the place of an error that isn't want of memory
 abbrev pub IfBad : ReadError → (ℤ → ℕ → Type 0) → Type 0
 IfBad e claim = elim e [ Bad number at ↦ claim number at | Memory ↦ Unit {0} ]
+
+-- the numbers of the faults that depend on the tokens before, and of all faults of a text that is
+-- read (pcre2api, "Error codes from pcre2_compile()")
+abbrev pub later_numbers : List ℕ
+later_numbers = 106 ∷ 108 ∷ 109 ∷ 115 ∷ 119 ∷ 122 ∷ 127 ∷ 143 ∷ 147 ∷ 150 ∷ 154 ∷ 165 ∷ 199 ∷ []
+
+abbrev pub numbers : List ℕ
+numbers = later_numbers ++ own.numbers
+
+-- the number is one of them, or -3, which is that of a text that isn't UTF-8
+abbrev pub is_listed : ℤ → Bool
+is_listed (pos n) = list_any (λ m. m == n) numbers
+is_listed (negsuc n) = n == 2
+
+-- an error that isn't want of memory has such a number
+abbrev pub IsListed : ReadError → Type 0
+IsListed (Bad number at) = IsTrue (is_listed number)
+IsListed Memory = Unit {0}
+
+-- its place is in the text or at its end
+abbrev pub IsInText : List ℕ → ReadError → Type 0
+IsInText text (Bad number at) = at ≤ length text
+IsInText text Memory = Unit {0}
 
 -- the faults in a class: those of its tokens, and 106, 108, 147 and 150
 abbrev pub IsClassFault : ℤ → Type 0

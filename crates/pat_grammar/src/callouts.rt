@@ -2,19 +2,24 @@
 ghost use Rattle.std.specs.Prelude.{◌≡◌, ◌≤◌, ◌+◌, ◌<◌, length, IfErr, IfOk, IfSome, Some};
 ghost use Rattle.std.specs.Option.{option_map};
 ghost use Rattle.pat_grammar.specs.State.{State};
-ghost use Rattle.pat_grammar.specs.Places.{state_at};
+ghost use Rattle.pat_grammar.specs.Places.{state_at, IsListed, IsInText};
 ghost use Rattle.pat_grammar.specs.Callouts.{set_over, is_item, item_end, next_item, quantified_end};
-ghost use Rattle.pat_grammar.specs.Parts.{automatic_lead};
+ghost use Rattle.pat_grammar.specs.Parts.{automatic_lead, fault_of_look, fault_of_test};
 ghost use Rattle.pat_grammar.specs.Leads.{IsWithin, LeadIs, Finds, Fails, written, called_look, assertion_from};
 
 use crate::brackets::read_class;
 use crate::cursor::{Assertion, Cursor, Place};
 use crate::error::ReadError;
 use crate::options::with_setting;
-use pat_lex::Token;
+use pat_lex::{Fault, Token};
 use pat_tree::Memory;
 use std::alloc::Global;
 use token_parts::{LEFT_OUT, MALFORMED_CONDITION};
+
+/// A comment isn't closed: a fault of its token, as is the next.
+const UNCLOSED_COMMENT: i32 = 118;
+
+const CALLOUT_NUMBER_TOO_BIG: i32 = 138;
 
 /// The number of an automatic callout.
 pub const AUTOMATIC: u8 = 255;
@@ -54,6 +59,30 @@ pub fn is_item(token: Token) -> bool
 pub struct Lead {
     pub called: Called,
     pub item: NextItem,
+}
+
+/// What is told at a conditional group's place, for the fault of a token where its lookaround has to
+/// be: that of a comment, and no other.
+fn fault_of_look(at: usize, fault: Fault) -> Fault
+    ensures { result ≡ fault_of_look at fault }
+{
+    if fault.number == UNCLOSED_COMMENT {
+        return fault;
+    }
+    Fault {
+        number: MALFORMED_CONDITION,
+        at,
+    }
+}
+
+/// The same where a callout may stand, of whose number it is told too.
+fn fault_of_test(at: usize, fault: Fault) -> Fault
+    ensures { result ≡ fault_of_test at fault }
+{
+    if fault.number == CALLOUT_NUMBER_TOO_BIG {
+        return fault;
+    }
+    fault_of_look(at, fault)
 }
 
 impl<'a> Cursor<'a> {
@@ -222,17 +251,18 @@ impl<'a> Cursor<'a> {
         requires { after.at ≤ length self.now.text.now }
         ensures found { IfOk result (Finds self.now after (called_look at called)) }
         ensures bad { IfErr result (Fails self.now after (called_look at called)) }
+        ensures number { IfErr result IsListed }
+        ensures place { at ≤ length self.now.text.now
+            → IfErr result (IsInText self.now.text.now) }
         ensures past { IfOk result (λ a. after.at ≤ a.here.at) }
         ensures onward { IfOk result (λ a. a.here.at < a.after.at) }
         ensures within { IfOk result (λ a. a.after.at ≤ length self.now.text.now) }
         ensures small { IfOk result (λ a. IfSome a.lead (IsWithin (length self.now.text.now))) }
     {
         let lead = self.written_lead(alloc, called, after)?;
-        let Ok(spot) = self.item(after, false) else {
-            return Err(ReadError::Bad {
-                number: MALFORMED_CONDITION,
-                at,
-            });
+        let spot = match self.item(after, false) {
+            Ok(spot) => spot,
+            Err(fault) => return Err(ReadError::from(fault_of_look(at, fault))),
         };
         let look = self.look_by(at, Some(lead), spot)?;
         Ok(look)
@@ -244,16 +274,17 @@ impl<'a> Cursor<'a> {
         requires { self.now.place.at ≤ length self.now.text.now }
         ensures found { IfOk result (Finds self.now self.now.place (assertion_from calling at)) }
         ensures bad { IfErr result (Fails self.now self.now.place (assertion_from calling at)) }
+        ensures number { IfErr result IsListed }
+        ensures place { at ≤ length self.now.text.now
+            → IfErr result (IsInText self.now.text.now) }
         ensures past { IfOk result (λ a. self.now.place.at ≤ a.here.at) }
         ensures onward { IfOk result (λ a. a.here.at < a.after.at) }
         ensures within { IfOk result (λ a. a.after.at ≤ length self.now.text.now) }
         ensures small { IfOk result (λ a. IfSome a.lead (IsWithin (length self.now.text.now))) }
     {
-        let Ok(spot) = self.item(self.place, false) else {
-            return Err(ReadError::Bad {
-                number: MALFORMED_CONDITION,
-                at,
-            });
+        let spot = match self.item(self.place, false) {
+            Ok(spot) => spot,
+            Err(fault) => return Err(ReadError::from(fault_of_test(at, fault))),
         };
         if let Token::CalloutItem {
             number,

@@ -1,5 +1,5 @@
 //! Where the reader stands in the text.
-ghost use Rattle.std.specs.Prelude.{◌≡◌, ◌<◌, ◌≤◌, length, Ok, Err, IfOk, IfErr, IfSome, IsTrue};
+ghost use Rattle.std.specs.Prelude.{◌≡◌, ◌<◌, ◌≤◌, pos, length, Ok, Err, IfOk, IfErr, IfSome, IsTrue};
 ghost use Rattle.std.specs.Option.{option_map};
 ghost use Rattle.token_parts.specs.Tell.{IsWell, Moves, is_own};
 ghost use Rattle.pat_lex.specs.Tokens.{token_at};
@@ -162,6 +162,8 @@ impl<'a> Cursor<'a> {
         requires moves { Moves self.now.text.now spot.here.at spot.token spot.after.at }
         ensures found { IfOk result (LookIs self.now at lead spot) }
         ensures bad { IfErr result (LookFails self.now at lead spot) }
+        ensures number { IfErr result (λ f. f.number ≡ pos 128) }
+        ensures place { IfErr result (λ f. f.at ≡ at) }
         ensures onward { IfOk result (λ a. a.here.at < a.after.at) }
         ensures here { IfOk result (λ a. a.here ≡ spot.here) }
         ensures after { IfOk result (λ a. a.after ≡ spot.after) }

@@ -8,8 +8,10 @@ pub mod callouts;
 pub mod cursor;
 pub mod error;
 mod faults;
+mod laws;
 pub mod options;
 pub mod properties;
 pub mod start;
 
 pub use error::ReadError;
+pub use laws::readings_are_bounded;

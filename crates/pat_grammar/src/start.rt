@@ -1,7 +1,7 @@
 //! The start items of a pattern (pcre2pattern, "Special start-of-pattern items").
 ghost use Rattle.std.specs.Prelude.{◌≡◌, ◌+◌, ◌≤◌, length, Ok, IfOk, IfErr};
 ghost use Rattle.pat_grammar.specs.Reading.{begins_limit, started, start, state_from};
-ghost use Rattle.pat_grammar.specs.Places.{Refuses};
+ghost use Rattle.pat_grammar.specs.Places.{Refuses, IsListed, IsInText};
 
 use crate::cursor::{Cursor, Place};
 use crate::error::ReadError;
@@ -23,6 +23,8 @@ pub fn started(text: &[u8], options: Options) -> Result<(usize, Options), ReadEr
         ≡ Ok (state_from r.0 r.1)) }
     ensures within { IfOk result (λ r. r.0 ≤ length text.now) }
     ensures bad { IfErr result (Refuses (started text.now (length text.now + 1) (start options))) }
+    ensures number { IfErr result IsListed }
+    ensures place { IfErr result (IsInText text.now) }
 {
     let mut at = 0;
     let mut options = options;
