@@ -3,6 +3,7 @@
 
 mod lacking;
 mod needs;
+mod same;
 mod text;
 mod weights;
 

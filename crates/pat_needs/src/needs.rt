@@ -16,6 +16,7 @@ ghost use Rattle.pat_needs.specs.Distances.{IsLong, NeedsAt};
 ghost use Rattle.pat_needs.specs.declared.needs.Distant.{Distant};
 
 use crate::lacking::{Lacking, lacking_of};
+use crate::same::is_same_text;
 use crate::text::ByteText;
 use crate::weights::{
     ANY, COMMON, both_weights, commonness, rarest_place, rate, repeated_weight, weight_of,
@@ -210,29 +211,6 @@ fn is_same(text: &ByteText, begin: &Option<BeginText>) -> bool {
         Some(begin) => is_same_text(text, &begin.text),
         None => false,
     }
-}
-
-fn is_same_text(one: &ByteText, other: &ByteText) -> bool {
-    is_same_set(&one.first, &other.first)
-        && is_same_of(&one.second, &other.second)
-        && is_same_of(&one.third, &other.third)
-}
-
-fn is_same_of(one: &Option<ByteSet>, other: &Option<ByteSet>) -> bool {
-    match (one, other) {
-        (Some(one), Some(other)) => is_same_set(one, other),
-        (None, None) => true,
-        _ => false,
-    }
-}
-
-fn is_same_set(one: &ByteSet, other: &ByteSet) -> bool {
-    for b in 0..256u32 {
-        if one.has(b as u8) != other.has(b as u8) {
-            return false;
-        }
-    }
-    true
 }
 
 /// What is needed of each node up to the root, anywhere in its matches or where they begin.
