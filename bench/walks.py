@@ -173,9 +173,11 @@ class Line:
         doesn't where they rule it out; without -r a folder goes by another name there. Filtered names leave such words out."""
         while True:
             word = self.any_word()
-            is_there = word == "-" or os.path.exists(os.path.join(self.tree.whole, word))
-            if not any(self.filters.values()) or (is_there if self.recursive else self.place(word.rstrip("/")) is None):
+            if not any(self.filters.values()) or (self.is_there(word) if self.recursive else self.place(word.rstrip("/")) is None):
                 return word
+
+    def is_there(self, word):
+        return word == "-" or os.path.exists(os.path.join(self.tree.whole, word))
 
     def any_word(self):
         choice, tree = self.choice, self.tree
@@ -226,7 +228,7 @@ class Line:
             said.append(line)
         status, odd = run.returncode, []
         if self.recursive:
-            for word in self.words:
+            for word in filter(self.is_there, self.words):
                 odd += self.unnamed(self.place(word.rstrip("/")), word.rstrip("/"))
         if odd:
             status = 2
@@ -240,7 +242,8 @@ def run(command, words, folder):
 
 
 def components(line):
-    return line.split(b"/")
+    """The name of a line by its parts. A binary file has a line of its own under -l too."""
+    return re.sub(rb"^Binary file (.*) matches$", rb"\1", line).split(b"/")
 
 
 def fault_of(line, theirs, given):
