@@ -169,21 +169,26 @@ class Line:
             self.words = ["-"]
 
     def word(self):
-        """A word for a file. Where names are filtered, none for which both sides go by another name or order than this."""
+        """A word for a file. Under -r ours tells a name that can't be asked for its kind whatever the filters say, and theirs
+        doesn't where they rule it out; without -r a folder goes by another name there. Filtered names leave such words out."""
+        while True:
+            word = self.any_word()
+            if not any(self.filters.values()) or (self.is_there(word) if self.recursive else self.place(word.rstrip("/")) is None):
+                return word
+
+    def is_there(self, word):
+        return word == "-" or os.path.exists(os.path.join(self.tree.whole, word))
+
+    def any_word(self):
         choice, tree = self.choice, self.tree
-        filtered = any(self.filters.values())
         kind = choice.randrange(12)
-        if kind < 5 and (self.recursive or not filtered):
-            path = choice.choice(tree.folders)
-            return choice.choice(["", "./"]) + path + choice.choice(["", "", "/", "//"])
+        if kind < 5:
+            return choice.choice(["", "./"]) + choice.choice(tree.folders) + choice.choice(["", "", "/", "//"])
         if kind < 8 and tree.files:
             return choice.choice(["", "./"]) + choice.choice(tree.files)
         if kind < 10:
-            links = ["file"] + ["folder"] * (self.recursive or not filtered) + ["none"] * (not self.recursive or not filtered)
-            return "../links/" + choice.choice(links)
-        if kind == 10 and not filtered:
-            return "gone"
-        return "-"
+            return "../links/" + choice.choice(["file", "folder", "none"])
+        return "gone" if kind == 10 else "-"
 
     def allows(self, name):
         """Whether a folder is searched, by the last component of its path."""
@@ -223,7 +228,7 @@ class Line:
             said.append(line)
         status, odd = run.returncode, []
         if self.recursive:
-            for word in self.words:
+            for word in filter(self.is_there, self.words):
                 odd += self.unnamed(self.place(word.rstrip("/")), word.rstrip("/"))
         if odd:
             status = 2
@@ -237,7 +242,8 @@ def run(command, words, folder):
 
 
 def components(line):
-    return line.split(b"/")
+    """The name of a line by its parts. A binary file has a line of its own under -l too."""
+    return re.sub(rb"^Binary file (.*) matches$", rb"\1", line).split(b"/")
 
 
 def fault_of(line, theirs, given):
