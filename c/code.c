@@ -3,18 +3,18 @@
 
 #include <ctype.h>
 #include <pthread.h>
-#include <stdatomic.h>
 #include <string.h>
 
 #define NAME_ROOM 128
 
-/* A handle is in one call at a time. */
+/* What a code shares with its match data, as long as one of them is there. A handle is in one call at a time. */
 struct shared {
+  struct memory memory;
   pthread_mutex_t lock;
-  struct door_handle handle;
+  struct door_handle handle; /* of nothing once the code is freed */
+  struct door_handle spare;  /* what match data gave back, for the next */
+  size_t users;
 };
-
-static _Atomic uint64_t codes;
 
 #define KNOWN_OPTIONS                                                                                                  \
   (PCRE2_ANCHORED | PCRE2_ENDANCHORED | PCRE2_NO_UTF_CHECK | PCRE2_ALLOW_EMPTY_CLASS | PCRE2_AUTO_CALLOUT |            \
@@ -180,19 +180,59 @@ static int make_all(struct making *m) {
 static struct shared *shared_of(const struct memory *m, struct door_handle handle) {
   struct shared *s = get_block(m, sizeof *s);
   if (!s) return NULL;
+  *s = (struct shared){.memory = *m, .handle = handle, .users = 1};
   if (pthread_mutex_init(&s->lock, NULL)) {
     give_block(m, s);
     return NULL;
   }
-  s->handle = handle;
   return s;
 }
 
-bool share_code(const pcre2_code *c, struct door_handle *other) {
-  pthread_mutex_lock(&c->shared->lock);
-  bool made = door_share(&c->shared->handle, other) == 0;
-  pthread_mutex_unlock(&c->shared->lock);
+/* Ends the use of the lock by one user, the last of whom gives the block back. */
+static void unlock_last(struct shared *s) {
+  bool is_last = --s->users == 0;
+  pthread_mutex_unlock(&s->lock);
+  if (!is_last) return;
+  struct memory m = s->memory;
+  pthread_mutex_destroy(&s->lock);
+  give_block(&m, s);
+}
+
+static bool share(struct shared *s, struct door_handle *other) {
+  pthread_mutex_lock(&s->lock);
+  bool made = door_share(&s->handle, other) == 0;
+  pthread_mutex_unlock(&s->lock);
   return made;
+}
+
+bool lend_handle(struct shared *s, struct door_handle *own) {
+  pthread_mutex_lock(&s->lock);
+  bool lent = s->spare.at || door_share(&s->handle, own) == 0;
+  if (s->spare.at) {
+    *own = s->spare;
+    s->spare.at = NULL;
+  }
+  s->users += lent;
+  pthread_mutex_unlock(&s->lock);
+  return lent;
+}
+
+void take_back(struct shared *s, struct door_handle *own) {
+  pthread_mutex_lock(&s->lock);
+  if (s->handle.at && !s->spare.at) {
+    s->spare = *own;
+    own->at = NULL;
+  } else {
+    door_free(own);
+  }
+  unlock_last(s);
+}
+
+static void end_sharing(struct shared *s) {
+  pthread_mutex_lock(&s->lock);
+  door_free(&s->handle);
+  if (s->spare.at) door_free(&s->spare);
+  unlock_last(s);
 }
 
 static bool read_names(pcre2_code *c) {
@@ -234,16 +274,15 @@ static pcre2_code *code_of(const struct memory *m, struct door_handle handle, co
   uint8_t *kept = get_block(m, len + 1);
   struct shared *shared = shared_of(m, handle);
   if (!c || !kept || !shared) {
-    if (shared) pthread_mutex_destroy(&shared->lock);
+    if (shared) end_sharing(shared);
+    else door_free(&handle);
     give_block(m, c);
     give_block(m, kept);
-    give_block(m, shared);
-    door_free(&handle);
     return NULL;
   }
   memcpy(kept, text, len);
   kept[len] = 0;
-  *c = (pcre2_code){.magic = MAGIC, .memory = *m, .shared = shared, .number = ++codes, .text = kept, .text_len = len};
+  *c = (pcre2_code){.magic = MAGIC, .memory = *m, .shared = shared, .text = kept, .text_len = len};
   c->told = door_info(&shared->handle);
   c->options = options;
   c->extra = with->extra;
@@ -318,10 +357,8 @@ pcre2_code *pcre2_compile(PCRE2_SPTR pattern, size_t len, uint32_t options, int 
 void pcre2_code_free(pcre2_code *c) {
   if (!c) return;
   struct memory m = c->memory;
-  door_free(&c->shared->handle);
-  pthread_mutex_destroy(&c->shared->lock);
+  end_sharing(c->shared);
   c->magic = 0;
-  give_block(&m, c->shared);
   give_block(&m, c->names);
   give_block(&m, c->text);
   give_block(&m, c);
@@ -329,7 +366,7 @@ void pcre2_code_free(pcre2_code *c) {
 
 pcre2_code *pcre2_code_copy(const pcre2_code *c) {
   struct door_handle handle = {NULL};
-  if (!c || !share_code(c, &handle)) return NULL;
+  if (!c || !share(c->shared, &handle)) return NULL;
   pcre2_compile_context with = plain_compile;
   with.extra = c->extra;
   with.newline = c->newline;

@@ -45,13 +45,12 @@ struct pcre2_convert_context_of_8 {
 
 struct pcre2_jit_stack_of_8 { struct memory memory; };
 
-struct shared;
+struct shared; /* what a code shares with its match data */
 
 struct pcre2_code_of_8 {
   uint64_t magic;
   struct memory memory;
   struct shared *shared;
-  uint64_t number; /* no two codes of a process have the same */
   struct door_told told;
   uint32_t options, extra, newline, bsr;
   const uint8_t *tables;
@@ -65,8 +64,8 @@ struct pcre2_code_of_8 {
 struct pcre2_match_data_of_8 {
   struct memory memory;
   const pcre2_code *code;
-  struct door_handle own; /* of the code of this number, with a workspace of its own; 0 for none */
-  uint64_t number;
+  struct shared *shared; /* of the code of the handle, or NULL */
+  struct door_handle own;
   const uint8_t *subject;
   size_t subject_len;
   uint8_t *copied;
@@ -97,8 +96,10 @@ int character_fault(const uint8_t *s, size_t n, size_t *len);
 /* How far the text is UTF-8, from a place on. */
 size_t valid_to(const uint8_t *s, size_t from, size_t len);
 
-/* Another handle of the code; false for want of memory. */
-bool share_code(const pcre2_code *, struct door_handle *);
+/* A handle of the code for match data, of which a workspace is used by nobody else; false for want of memory. */
+bool lend_handle(struct shared *, struct door_handle *);
+/* Takes it back. */
+void take_back(struct shared *, struct door_handle *);
 
 /* Match data of this code, ready for a search: 0, or why there is none. */
 int begin_match(pcre2_match_data *, const pcre2_code *, PCRE2_SPTR *subject, size_t *len, size_t start,

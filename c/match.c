@@ -32,7 +32,7 @@ pcre2_match_data *pcre2_match_data_create_from_pattern(const pcre2_code *c, pcre
 void pcre2_match_data_free(pcre2_match_data *m) {
   if (!m) return;
   struct memory memory = m->memory;
-  if (m->number) door_free(&m->own);
+  if (m->shared) take_back(m->shared, &m->own);
   give_block(&memory, m->copied);
   give_block(&memory, m);
 }
@@ -43,12 +43,12 @@ uint32_t pcre2_get_ovector_count(pcre2_match_data *m) { return m->count; }
 size_t pcre2_get_startchar(pcre2_match_data *m) { return m->startchar; }
 size_t pcre2_get_match_data_size(pcre2_match_data *m) { return sizeof *m + 2 * m->count * sizeof(size_t); }
 
-/* Gives match data a handle of this code, so that threads that share the code don't wait for each other. */
+/* Match data has a handle of its own of the code, so that threads that share the code don't wait for each other. */
 bool take_handle(pcre2_match_data *m, const pcre2_code *c) {
-  if (m->number == c->number) return true;
-  if (m->number) door_free(&m->own);
-  m->number = share_code(c, &m->own) ? c->number : 0;
-  return m->number != 0;
+  if (m->shared == c->shared) return true;
+  if (m->shared) take_back(m->shared, &m->own);
+  m->shared = lend_handle(c->shared, &m->own) ? c->shared : NULL;
+  return m->shared != NULL;
 }
 
 /* ---- searches ---- */
