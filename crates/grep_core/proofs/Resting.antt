@@ -1,5 +1,5 @@
 -- Where a write is refused in a scan that ends early: the lines that were taken by then are within it.
-use Rattle.std.proofs.Common.{◌≡◌, ◌≢◌, ℕ, ◌+◌, ◌-◌, ◌≤◌, Bool, true, false, if◌then◌else◌, List, ◌++◌, length, take, map, Option, None, Some, refl, sym, ap, subst, ◌∙◌, arith, append_assoc, length-append}
+use Rattle.std.proofs.Common.{◌≡◌, ◌≢◌, ℕ, ◌+◌, ◌-◌, ◌≤◌, Bool, true, false, if◌then◌else◌, List, ◌++◌, length, take, Option, None, Some, refl, sym, ap, subst, ◌∙◌, arith, append_assoc, length-append}
 use Rattle.std.specs.Prelude.{nat_lt}
 use Rattle.std.proofs.lemmas.List.{length-map}
 use Rattle.std.proofs.lemmas.List.Sums.{sum_by-append}
@@ -33,7 +33,7 @@ little-first found given more n before after all few little =
 
 -- the last line that may be selected isn't among the first ones, where fewer are selected
 last-place : (holds : Tried → Bool) (most : Option ℕ) (us vs : List Tried) (place : ℕ) → IsBelow most (count holds us) → place_of_most holds most (us ++ vs) ≡ Some place → length us ≤ place
-last-place holds None us vs place below is = absurd (cc)
+last-place holds None us vs place below is = let e : None ≡ Some place = is in absurd (cc)
 last-place holds (Some n) us vs place below is = subst (λ o. IsPast (length us) o) is (nth-past holds n us vs below)
 
 finish-early : (finish : Finish) → at_finish finish ≢ early

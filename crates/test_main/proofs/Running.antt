@@ -1,5 +1,5 @@
 -- A script's run, by what was written of it.
-use Rattle.std.proofs.Common.{◌≡◌, ◌≢◌, ◌∙◌, ℕ, ◌<◌, true, false, List, [], ◌∷◌, codes, Option, None, Some, Result, Ok, Err, refl, sym, ap, subst, arith, inl, inr, option_map}
+use Rattle.std.proofs.Common.{◌≡◌, ◌≢◌, ◌∙◌, ℕ, ◌<◌, false, List, [], ◌∷◌, codes, Option, None, Some, Result, Ok, Err, refl, sym, ap, subst, arith, inl, inr, option_map}
 use Rattle.std.specs.List.{list_any}
 use Rattle.std.proofs.lemmas.Bool.{lt-leb, false≢true}
 use Rattle.std.proofs.KnownBytes.{Appends-nil, Appends-trans}
@@ -211,8 +211,8 @@ module _ {S : Type 0} (tells : S → Told) where
 
 -- Standard input that isn't asked for.
 
-pub standard-asked : (words : TestWords) → words.script ≡ Standard → list_any is_standard (asked_by (Some words)) ≡ false → {P : Type 0} → P
-standard-asked words is none = absurd (false≢true (sym none ∙ ap (λ s. list_any is_standard (targets_of s)) is))
+pub standard-asked : (words : TestWords) → words.script ≡ Standard → list_any is_standard (asked_by (Some words)) ≡ false → ⊥
+standard-asked words is none = false≢true (sym none ∙ ap (λ s. list_any is_standard (targets_of s)) is)
 
 pub unused-read : (words : List (List ℕ)) (read : Option TestWords) (fact : Type 0) → words_of words ≡ read → (list_any is_standard (asked_by read) ≡ false → fact) → list_any is_standard (asked_targets words) ≡ false → fact
 unfolding asked_targets

@@ -61,4 +61,6 @@ returns-in-Generated-clause-runs g c =
     )
 
 pub returns-in-Standard-clause-unused : goal.returns-in-Standard-clause-unused
-returns-in-Standard-clause-unused g c = λ none. standard-asked c.args.asked.now (search rules) none
+returns-in-Standard-clause-unused g c = λ none.
+    let is : c.args.asked.now.script ≡ Standard = search rules in
+    absurd (standard-asked c.args.asked.now is none)
