@@ -26,7 +26,7 @@ use Rattle.tool_io.proofs.Printing.{prefix-of, prefix-none}
 use Rattle.tool_io.proofs.Writing.{prefix-more, prefix-front}
 use Rattle.test_script.specs.declared.plan.TestPlan.{TestPlan}
 use Rattle.test_run.specs.TestText.{Tested}
-use Rattle.test_main.specs.Opens.{AreGiven, UnlessLacks}
+use Rattle.test_main.specs.Opens.{AreGiven, GivenBy, UnlessLacks}
 use Rattle.test_main.specs.RunsBy.{Ran, Counts, Stopped, RunsBy}
 use Rattle.test_main.specs.declared.words.Script.{Script}
 use Rattle.test_main.specs.declared.words.Script.TheVariants.{Standard, File, Generated}
@@ -177,7 +177,8 @@ unless-stopped Memory fact h other = absurd (other refl)
 
 -- a file of which a source was opened
 pub given-opened : {S : Type 0} (tells : S → Told) (contents : Option Contents) (path : List ℕ) (opened left : S) (input : Input) → Opens contents path (tells opened) → Hears (tells opened) (tells left) input → AreGiven tells contents (given_of (targets.File path) (Some input))
-given-opened tells contents path opened left input opens hears = (record { opened = opened; left = left; opens = opens; hears = hears }, tt)
+given-opened tells contents path opened left input opens hears =
+    let by : GivenBy tells contents path input = record { opened = opened; left = left; opens = opens; hears = hears } in (by, tt)
 
 -- by what the words are read as, where the count of faults of the files rose from `first` to `last`
 abbrev pub Found : {S : Type 0} → (S → Told) → Told → Told → Option Contents → ℕ → ℕ → Option TestWords → Printed → Printed → Result ℕ IoError → Type 0
