@@ -70,8 +70,9 @@ module _ (before after : Told) where
   LeavesReads given words (Ok plan) =
       LeavesHelp (drop plan.files_from words) plan given plan.help
 
--- Where the scan of standard input ends before its input does, at most 65,536 bytes past its last line were taken of it, also where
--- a write was refused. So it is for a run on the words after the tool's name, whose targets stand for these inputs.
+-- Where the scan of standard input ends before its input does, at most 65,536 bytes past its last
+-- line were taken of it, also where a write was refused. So it is for a run on the words after the
+-- tool's name, whose targets stand for these inputs.
 unfoldable pub LeavesInput : List (List ℕ) → List Asked → Told → Told → Type 0
 LeavesInput words given before after = LeavesReads before after given words (plan_of words)
 

@@ -182,7 +182,8 @@ fn add_file<F: FileSet, S: Source, E: Sink>(
         (E.tells err.old))
         (reading (inputs (F.tells files.new) (S.tells input.new) is_used.new) texts.new
         (E.tells err.new)) result }
-    ensures unused { LeavesUnasked (named_target word.now ∷ []) (S.tells input.old) (S.tells input.new) }
+    ensures unused { LeavesUnasked (named_target word.now ∷ []) (S.tells input.old)
+        (S.tells input.new) }
     ensures files { (F.tells files.new).contents ≡ (F.tells files.old).contents }
     ensures later { (F.tells files.old).faults ≤ (F.tells files.new).faults }
 {

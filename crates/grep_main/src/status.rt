@@ -32,8 +32,8 @@ pub fn run_grep<F: FileSet, S: Source, O: Sink, E: Sink>(
     // the files. For these the sinks grew by its text, and the answer is its status; or memory
     // lacked or a write failed, and they grew by a part of it. A file is absent only where it is
     // known to be, or a fault was counted. Where the scan of standard input ends early, little past
-    // its last line was taken of it, unless memory lacked; and where no target is standard input, it
-    // is left as it was.
+    // its last line was taken of it, unless memory lacked. Where no target is standard input, it is
+    // left as it was.
     ensures text { let before = F.tells files.old in let after = F.tells files.new in
         (heard : Input) × Hears (S.tells input.old) (S.tells input.new) heard
         × ((asked : List Target) × AsksFor before.contents before.faults after.faults

@@ -33,17 +33,17 @@ ToolAsks old new [] asked = asked ≡ []
 ToolAsks old new (tool ∷ words) asked = AsksIf (is_grep tool) (is_test tool) old new words asked
 
 -- what is told of inputs beside the text, for a run that answers this status
-abbrev pub TiesIf : {S : Type 0} → (S → Told) → Bool → Streams → Streams → List (List ℕ) → List Asked
-    → ℕ → Type 0
+abbrev pub TiesIf : {S : Type 0} → (S → Told) → Bool → Streams → Streams → List (List ℕ)
+    → List Asked → ℕ → Type 0
 TiesIf tells true old new words given status =
     RunTies old.files new.files given status (LeavesInput words given old.input new.input)
 TiesIf tells false old new words given status =
     AbsentBy old.files.contents old.files.faults new.files.faults given
     × (status ≢ 3 → AreGiven tells old.files.contents given)
 
--- A file that a tool was to read is absent only where a fault was counted. Where pcre2grep's scan of standard input ends early,
--- little past its last line was taken of it, unless memory lacked. The file that pcre2test read was opened, and its source, which
--- tells so much, stands for its input.
+-- A file that a tool was to read is absent only where a fault was counted. Unless memory lacked,
+-- little past its last line was taken where pcre2grep's scan of standard input ends early, and what
+-- pcre2test's file stands for was given by a source that was opened, which tells so much.
 abbrev pub ToolTies : {S : Type 0} → (S → Told) → Streams → Streams → List (List ℕ) → List Asked → ℕ
     → Type 0
 ToolTies tells old new [] given status = ⊤

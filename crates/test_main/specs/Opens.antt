@@ -1,4 +1,5 @@
--- What a file of a run stands for, by what opening it answered, over any set of files: a source, which gave the bytes of the input.
+-- What a file of a run stands for, over any set of files: what the source gave that opening it
+-- answered.
 use Rattle.std.specs.Prelude.{ℕ, List, [], ◌∷◌, Option, Some, Result, Ok, Err, ⊤}
 use Rattle.pcre_io.specs.Told.{Told}
 use Rattle.pcre_io.specs.Files.{Contents, Opens}
@@ -10,7 +11,8 @@ use Rattle.tool_io.specs.declared.target.Target.{Target}
 use Rattle.tool_io.specs.declared.target.Target.TheVariants as targets
 use Rattle.tool_io.specs.Asked.{Asked}
 
--- A source of these files was opened by this name, and stands for this input: it was opened so, and is left so.
+-- A source of these files was opened by this name, and stands for this input: it was opened so, and
+-- is left so.
 pub record GivenBy {S : Type 0} (tells : S → Told) (contents : Option Contents) (path : List ℕ)
     (input : Input) : Type 0 where
   pub opened : S
