@@ -33,10 +33,11 @@ use Rattle.grep_core.specs.WholeScans.{IsJob, BeginsWith, LeavesRest, ScansInput
 use Rattle.grep_core.specs.Ahead.{TakesRows, TakesAhead, HaltsAhead}
 use Rattle.grep_core.proofs.ScansRows.{stood-begins}
 use Rattle.grep_core.proofs.ScansTexts.{breaks-out, breaks-ext}
-use Rattle.grep_core.proofs.ScansTaken.{tries, tries-more, stops-in, Standing, standing-line, line-given}
+use Rattle.grep_core.specs.Underway.{tries, Standing, Keeps}
+use Rattle.grep_core.proofs.ScansTaken.{tries-more, stops-in, standing-line, line-given}
 use Rattle.grep_core.proofs.ScansEnd.{left, full_of, begins-scan, begins-tried, goes-of}
 use Rattle.grep_core.proofs.ScansSent.{rest-part, soon-part}
-use Rattle.grep_core.proofs.ScansLoop.{Keeps, keeps-more, gave}
+use Rattle.grep_core.proofs.ScansLoop.{keeps-more, gave}
 
 -- any source
 told : Told

@@ -32,7 +32,8 @@ use Rattle.grep_output.proofs.ScanEnds.{count}
 use Rattle.grep_output.proofs.Extends.{Goes}
 use Rattle.grep_output.proofs.Growing.{grows}
 use Rattle.grep_output.proofs.Deciding.{TellsNothing, TellsOnce, tells-of, only-shown, Decides, decides, EndsIn, ends-in}
-use Rattle.grep_core.proofs.ScansTaken.{tries, tries-more, rows-tried}
+use Rattle.grep_core.specs.Underway.{tries}
+use Rattle.grep_core.proofs.ScansTaken.{tries-more, rows-tried}
 use Rattle.grep_core.proofs.ScansEnd.{full_of, scan-is}
 
 -- what begins what a sink grew by is no longer

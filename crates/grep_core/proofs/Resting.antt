@@ -15,7 +15,8 @@ use Rattle.grep_output.specs.LittlePast.{TakesLittlePast}
 use Rattle.grep_output.proofs.ScanEnds.{IsPast, count, nth-past}
 use Rattle.grep_core.specs.Work.{Work}
 use Rattle.grep_core.specs.WholeScans.{scan_of}
-use Rattle.grep_core.proofs.ScansTaken.{tries, tries-more, rows-tried}
+use Rattle.grep_core.specs.Underway.{tries}
+use Rattle.grep_core.proofs.ScansTaken.{tries-more, rows-tried}
 
 -- little past some rows is little past more of them
 pub little-more : (rows more : List Row) (before after : Told) → TakesLittlePast rows before after → TakesLittlePast (rows ++ more) before after

@@ -41,7 +41,8 @@ use Rattle.grep_core.proofs.ScansRows.{stood-moves, stood-begins, stood-stops, s
 use Rattle.grep_core.proofs.ScansTexts.{breaks-more, breaks-memory, breaks-ext, grew-part}
 use Rattle.grep_core.proofs.Resting.{rest-below}
 use Rattle.tool_io.proofs.Printing.{wrote-more}
-use Rattle.grep_core.proofs.ScansTaken.{tries, tries-more, rows-tried, errors-more, stops-in, stops-error, Standing, next-stood, next-kind, next-max, next-whole, next-numbered}
+use Rattle.grep_core.specs.Underway.{tries, Standing}
+use Rattle.grep_core.proofs.ScansTaken.{tries-more, rows-tried, errors-more, stops-in, stops-error, next-stood, next-kind, next-max, next-whole, next-numbered}
 use Rattle.tool_io.specs.Printed.{printed}
 
 -- how the feed ends is how the rows end

@@ -25,7 +25,7 @@ use Rattle.tool_io.specs.Prints.{Wrote}
 use Rattle.grep_output.proofs.Reached.{Reached, reached-begun}
 use Rattle.grep_output.specs.Scans.{IsBelow}
 use Rattle.tool_io.proofs.Printing.{wrote-none}
-use Rattle.grep_core.proofs.ScansTaken.{Standing}
+use Rattle.grep_core.specs.Underway.{Keeps, Standing}
 use Rattle.tool_io.specs.Printed.{printed}
 
 shown-none : (plan : GrepPlan) (name : List ℕ) (shows : Show) (hs : Bool) → shown_out plan name shows hs (scan_so_far []) ≡ []
@@ -142,16 +142,6 @@ gave f g now after row gives =
       limit = cuts.limit;
       max = cuts.max ∙ moves.max;
     }
-
--- the numbers of a loop between two lines
-pub record Keeps (f : Feed) (c : Course) (s : State) : Type 0 where
-  pub max : f.max ≤ 2 ^ 30
-  pub numbered : f.number ≤ f.offset
-  pub number : f.number ≤ 2 ^ 40
-  pub earlier : length c.earlier.rows ≤ f.number
-  pub context : c.context_to ≤ 2 ^ 62
-  pub selected : c.selected ≤ f.number
-  pub errors : s.errors ≤ 20
 
 pub keeps-more : (work : Work) (most : Option ℕ) (f g : Feed) (now after : Told) (row : Row) (t : Tried) (c : Course) (s : State) (c1 : Course) (s1 : State) (out out1 err err1 : Kept) (next : Next)
     → work.plan.after_context < 2 ^ 32 → t.row ≡ row → Keeps f c s → Gives f g now after row → Takes work most t (progress c s (printed out err)) (progress c1 s1 (printed out1 err1)) next → Keeps g c1 s1

@@ -29,7 +29,8 @@ use Rattle.grep_output.proofs.ScanEnds.{count}
 use Rattle.grep_output.proofs.Extends.{extends}
 use Rattle.grep_core.proofs.ScansRows.{stood-begins, stood-little}
 use Rattle.grep_core.proofs.ScansTexts.{wrote-out, breaks-out, breaks-ext, grew-part}
-use Rattle.grep_core.proofs.ScansTaken.{tries, stops-in, Standing}
+use Rattle.grep_core.specs.Underway.{tries, Standing}
+use Rattle.grep_core.proofs.ScansTaken.{stops-in}
 use Rattle.grep_core.proofs.Resting.{rest-below}
 use Rattle.grep_core.proofs.ScansEnd.{left, full_of, begins-scan, begins-tried, goes-of, given-shown}
 

@@ -24,6 +24,7 @@ use Rattle.grep_output.specs.Course as course
 use Rattle.grep_output.specs.Course.{AreNumbered, row_out, state_after_line, is_lines, scan_so_far}
 use Rattle.grep_core.specs.Turns.{course_of, is_full, Takes}
 use Rattle.grep_core.specs.Work.{Work, progress, fed, position}
+use Rattle.grep_core.specs.Underway.{tries, Taken, Standing}
 use Rattle.grep_core.specs.WholeScans.{Stood, StopsIn, left_by, Pauses}
 use Rattle.tool_io.specs.Prints.{Wrote}
 use Rattle.grep_output.proofs.ReachRows.{numbered-left}
@@ -34,9 +35,6 @@ use Rattle.grep_output.specs.LittlePast.{bytes_in}
 use Rattle.grep_core.proofs.ScansRows.{stood-gives, stood-begins, begins-numbered, whole-gives}
 use Rattle.tool_io.proofs.Printing.{wrote-more}
 use Rattle.tool_io.specs.Printed.{printed}
-
-abbrev pub tries : GrepPlan → List Pattern → List Row → List Tried
-tries plan patterns given = map (tried_row plan patterns) given
 
 pub tries-more : (plan : GrepPlan) (patterns : List Pattern) (given more : List Row) → tries plan patterns (given ++ more) ≡ tries plan patterns given ++ tries plan patterns more
 tries-more plan patterns given more = map-append (tried_row plan patterns) given more
@@ -75,18 +73,12 @@ module _ (work : Work) (treated : Treatment) (s0 : State) where
       let shown = ap (λ b. s0.has_shown || b) group ∙ or_joined s0.has_shown (shows_group work.plan work.name work.show (scan_so_far ts)) (is_selected work.plan t && is_lines work.show) in
       λ i. record s0 { errors = errors-more ts t i; has_shown = shown i }
 
-  -- the lines were taken
-  pub record Taken (ts : List Tried) (c : Course) (s : State) (out0 out err0 err : Kept) : Type 0 where
-    pub reached : Reached work.plan work.show ts (course_of c)
-    pub wrote : Wrote (shown_out work.plan work.name work.show s0.has_shown (scan_so_far ts)) (flat_map (error_message work.name) ts) (printed out0 err0) (printed out err)
-    pub state : s ≡ left_so ts
-
   -- a scan that begins with them stops after them
-  pub stops-in : {scan : Scan} {ts : List Tried} {c : Course} {s : State} {out0 out err0 err : Kept} (rest : List Tried) (selected : ℕ) → selected ≡ c.selected → scan.tried ≡ ts ++ rest → Taken ts c s out0 out err0 err → StopsIn work treated s0 scan selected s
+  pub stops-in : {scan : Scan} {ts : List Tried} {c : Course} {s : State} {out0 out err0 err : Kept} (rest : List Tried) (selected : ℕ) → selected ≡ c.selected → scan.tried ≡ ts ++ rest → Taken work treated s0 ts c s out0 out err0 err → StopsIn work treated s0 scan selected s
   stops-in {scan} {ts} rest selected same begins taken = record { tried = ts; rest = rest; begins = begins; count = same ∙ taken.reached.selected; state = taken.state }
 
   -- a line more that has a match error
-  pub stops-error : {scan : Scan} (ts : List Tried) (t : Tried) {c : Course} {s : State} {out0 out err0 err : Kept} (rest : List Tried) (selected : ℕ) (s1 : State) → selected ≡ c.selected → scan.tried ≡ (ts ++ t ∷ []) ++ rest → Taken ts c s out0 out err0 err
+  pub stops-error : {scan : Scan} (ts : List Tried) (t : Tried) {c : Course} {s : State} {out0 out err0 err : Kept} (rest : List Tried) (selected : ℕ) (s1 : State) → selected ≡ c.selected → scan.tried ≡ (ts ++ t ∷ []) ++ rest → Taken work treated s0 ts c s out0 out err0 err
       → AreNumbered 1 (rows_of (ts ++ t ∷ [])) → has_error t ≡ true → s1 ≡ state_after_line work.plan work.show s t → StopsIn work treated s0 scan selected s1
   stops-error {scan} ts t {c} rest selected s1 same begins taken numbered error state =
       let more = count-more (is_selected work.plan) ts t in
@@ -99,14 +91,14 @@ module _ (work : Work) (treated : Treatment) (s0 : State) where
         state = state ∙ ap (λ (x : State). state_after_line work.plan work.show x t) taken.state ∙ sym (left-more ts (course_of c) t taken.reached numbered);
       }
 
-  module _ (most : Option ℕ) (ts : List Tried) (t : Tried) (c : Course) (s : State) (c1 : Course) (s1 : State) (out0 out out1 err0 err err1 : Kept) (next : Next) (taken : Taken ts c s out0 out err0 err) (numbered : AreNumbered 1 (rows_of (ts ++ t ∷ []))) (takes : Takes work most t (progress c s (printed out err)) (progress c1 s1 (printed out1 err1)) next) where
+  module _ (most : Option ℕ) (ts : List Tried) (t : Tried) (c : Course) (s : State) (c1 : Course) (s1 : State) (out0 out out1 err0 err err1 : Kept) (next : Next) (taken : Taken work treated s0 ts c s out0 out err0 err) (numbered : AreNumbered 1 (rows_of (ts ++ t ∷ []))) (takes : Takes work most t (progress c s (printed out err)) (progress c1 s1 (printed out1 err1)) next) where
     first : AreNumbered 1 (rows_of ts)
     first = numbered-first ts (t ∷ []) numbered
 
     number : t.row.number ≡ length ts + 1
     number = number-of ts t [] numbered
 
-    pub taken-line : Taken (ts ++ t ∷ []) c1 s1 out0 out1 err0 err1
+    pub taken-line : Taken work treated s0 (ts ++ t ∷ []) c1 s1 out0 out1 err0 err1
     taken-line =
         let had : s.has_shown ≡ (s0.has_shown || shows_group work.plan work.name work.show (scan_so_far ts)) = ap (λ (x : State). x.has_shown) taken.state in
         let out_is : shown_out work.plan work.name work.show s0.has_shown (scan_so_far (ts ++ t ∷ [])) ≡ shown_out work.plan work.name work.show s0.has_shown (scan_so_far ts) ++ row_out work.plan work.name work.show s.has_shown (course_of c) t =
@@ -168,19 +160,8 @@ last-line plan most ts t below is =
 
 -- How a scan stands after the rows that were given.
 module _ (work : Work) (most : Option ℕ) (treated : Treatment) (s0 : State) where
-  pub record Standing (before now : Told) (f : Feed) (c : Course) (s : State) (out0 out err0 err : Kept) : Type 0 where
-    pub given : List Row
-    pub stood : Stood work.plan treated before now f given
-    pub kind : f.kind ≡ line_end work.plan
-    pub max : f.max ≡ work.plan.max_buffer_size
-    pub whole : f.offset ≡ bytes_in given
-    pub near : length f.held ≤ 65536
-    pub few : count has_error (tries work.plan work.patterns given) < errors_left s0.errors
-    pub below : IsBelow most (count (is_selected work.plan) (tries work.plan work.patterns given))
-    pub taken : Taken work treated s0 (tries work.plan work.patterns given) c s out0 out err0 err
-
   module _ (before now after : Told) (f g : Feed) (row : Row) (c : Course) (s : State) (c1 : Course) (s1 : State) (out0 out out1 err0 err err1 : Kept)
-      (standing : Standing before now f c s out0 out err0 err) (gives : Gives f g now after row) where
+      (standing : Standing work most treated s0 before now f c s out0 out err0 err) (gives : Gives f g now after row) where
     abbrev ts : List Tried
     ts = tries work.plan work.patterns standing.given
 
@@ -211,7 +192,7 @@ module _ (work : Work) (most : Option ℕ) (treated : Treatment) (s0 : State) wh
         let all = numbered-left 1 more begins.more (begins-numbered work.plan treated before after more begins) in
         subst (λ l. AreNumbered 1 l) (sym (rows-tried work.plan work.patterns more) ∙ ap rows_of same-tries) all
 
-    pub standing-line : Takes work most t (progress c s (printed out err)) (progress c1 s1 (printed out1 err1)) Line → Standing before after g c1 s1 out0 out1 err0 err1
+    pub standing-line : Takes work most t (progress c s (printed out err)) (progress c1 s1 (printed out1 err1)) Line → Standing work most treated s0 before after g c1 s1 out0 out1 err0 err1
     standing-line takes =
         let is = takes.answer ∙ ap (λ n. cond (is_selected work.plan t && is_full most n) Context Line) (selected-line work treated s0 most ts t c s c1 s1 out0 out out1 err0 err err1 Line standing.taken next-numbered takes) in record {
           given = more;

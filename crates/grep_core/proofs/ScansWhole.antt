@@ -41,7 +41,8 @@ use Rattle.grep_output.proofs.ScanEnds.{count, early-tried, early-within}
 use Rattle.grep_output.proofs.Extends.{LastSelected, follow_out, early-is, early_out, number-of, numbered-first, TextsBegin}
 use Rattle.grep_core.proofs.ScansRows.{ends-numbered}
 use Rattle.grep_core.proofs.ScansTexts.{wrote-out, breaks-out, breaks-ext, grew-then}
-use Rattle.grep_core.proofs.ScansTaken.{tries, tries-more, rows-tried}
+use Rattle.grep_core.specs.Underway.{tries}
+use Rattle.grep_core.proofs.ScansTaken.{tries-more, rows-tried}
 use Rattle.grep_core.proofs.Resting.{little-more}
 use Rattle.grep_core.proofs.ScansEnd.{full_of, scan-is, begins-scan, begins-tried, ends-scan, rest-late}
 use Rattle.tool_io.specs.Printed.{printed}

@@ -23,8 +23,9 @@ use Rattle.grep_watch.specs.Watched.{Watches, PassesOver}
 use Rattle.grep_core.specs.Unseen.{IsUnseen, HidesUnmatched, PassesUnseen}
 use Rattle.grep_watch.proofs.Passing.{all-nil, all-cons, all-tail}
 use Rattle.grep_core.proofs.Taking.{passed-takes}
-use Rattle.grep_core.proofs.ScansLoop.{Keeps, keeps-more, gave}
-use Rattle.grep_core.proofs.ScansTaken.{Standing, standing-line}
+use Rattle.grep_core.proofs.ScansLoop.{keeps-more, gave}
+use Rattle.grep_core.specs.Underway.{Standing, Keeps}
+use Rattle.grep_core.proofs.ScansTaken.{standing-line}
 
 module _ (work : Work) where
   abbrev IsNone : Row → Type 0

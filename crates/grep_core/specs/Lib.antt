@@ -22,3 +22,4 @@ pub mod OneInput
 pub mod Unseen
 pub mod Ahead
 pub mod Kept
+pub mod Underway

@@ -1,5 +1,5 @@
 //! The scan of an input, line by line.
-ghost use Rattle.std.specs.Prelude.{◌≡◌, ◌≢◌, ℕ, List, ◌<◌, ◌≤◌, ◌+◌, ◌^◌, ◌||◌, ◌&&◌, true, false, [], length, flat_map, if◌then◌else◌, IfOk, OnOk, Ok, Err, None, IsTrue};
+ghost use Rattle.std.specs.Prelude.{◌≡◌, ◌≢◌, ℕ, List, ◌<◌, ◌≤◌, ◌+◌, ◌^◌, ◌||◌, ◌&&◌, true, false, [], length, flat_map, if◌then◌else◌, IfOk, IfSome, OnOk, Ok, Err, None, IsTrue};
 ghost use Rattle.pcre_io.specs.Told.{Told, Kept};
 ghost use Rattle.line_feed.specs.Rows.{Row};
 ghost use Rattle.line_feed.specs.Lines.{row_of};
@@ -23,6 +23,10 @@ ghost use Rattle.grep_core.specs.Follows.{FollowsOne, Follows, past};
 ghost use Rattle.grep_core.specs.Sending.{SendsOn};
 ghost use Rattle.grep_core.specs.Work.{work_of, standing, progress, fed, position};
 ghost use Rattle.grep_watch.specs.Watched.{Watches};
+ghost use Rattle.grep_watch.specs.Filtered.{Sifts, Filters};
+ghost use Rattle.pat_tree.specs.Pattern.{Pattern};
+ghost use Rattle.grep_args.specs.declared.plan.GrepPlan.{GrepPlan};
+ghost use Rattle.grep_core.specs.Underway.{IsReady, Origin, StandsAt, TakesPart};
 ghost use Rattle.grep_core.specs.Unseen.{HidesUnmatched, PassesUnseen, KeepsUnmatched, PrintsUnmatched};
 ghost use Rattle.grep_core.specs.Kept.{KeepsLines};
 ghost use Rattle.line_feed.specs.Passes.{HoldsLines};
@@ -34,7 +38,7 @@ ghost use Rattle.tool_io.specs.Printed.{printed};
 use grep_args::GrepPlan;
 use grep_match::{MatchList, Patterns, Verdict, Workspace, is_named, search_line};
 use grep_output::{EarlierLines, Ended, Show, State, Stop, write_error, write_line, write_matches};
-use grep_watch::Watch;
+use grep_watch::{Filter, Sieve, Watch};
 use line_feed::{FeedError, Line, LineFeed};
 use pcre_io::{IoError, Memory, Sink, Source};
 use std::alloc::Global;
@@ -76,6 +80,17 @@ enum Turn {
     Took(Next),
     Finished(Ended),
 }
+
+/// What a part of a scan comes to.
+pub(crate) enum Came {
+    /// A line of the wanted number.
+    Far,
+    /// The last line that may be selected, or how the scan ends before one.
+    Done(Option<Ended>),
+}
+
+// So many lines are taken before a filter is made, which takes some tenths of a millisecond: many files have fewer.
+const LATE: u64 = 1_000;
 
 // The match errors of a run that end it.
 const MANY_ERRORS: u32 = 21;
@@ -658,6 +673,87 @@ fn follow<S: Source, O: Sink>(
     Ok(Ended::Early)
 }
 
+// Looks for the first line that may have a match, where there is a filter.
+fn sift(filter: &mut Option<Filter<'_>>, watch: &mut Watch, feed: &LineFeed)
+    ensures watch { (plan : GrepPlan) (patterns : List Pattern)
+        → IfSome filter.old (Filters plan patterns) → Watches plan patterns watch.old feed.now.held
+        → Watches plan patterns watch.new feed.now.held }
+    ensures same { (plan : GrepPlan) (patterns : List Pattern)
+        → IfSome filter.old (Filters plan patterns) → IfSome filter.new (Filters plan patterns) }
+{
+    if let Some(filter) = filter {
+        filter.look(watch, feed);
+    }
+}
+
+// The filter of a sieve, where there is one and memory is there.
+fn filter_by(alloc: Global, sieve: &Option<Sieve>) -> Option<Filter<'_>>
+    ensures { (plan : GrepPlan) (patterns : List Pattern)
+        → IfSome sieve.now (Sifts plan patterns) → IfSome result (Filters plan patterns) }
+{
+    match sieve {
+        Some(sieve) => Filter::new(alloc, sieve),
+        None => None,
+    }
+}
+
+// What is known of the lines: under a filter it alone tells of them.
+fn watch_under(filter: &Option<Filter<'_>>, watch: Watch) -> Watch
+    ensures { (plan : GrepPlan) (patterns : List Pattern) (held : List ℕ)
+        → Watches plan patterns watch held → Watches plan patterns result held }
+{
+    match filter {
+        Some(_) => Watch::blank(),
+        None => watch,
+    }
+}
+
+// Takes lines until one of this number was taken, up to the last one that may be selected, or to the end.
+fn take_until<S: Source, O: Sink, E: Sink>(
+    job: &Job<'_>,
+    feed: &mut LineFeed,
+    source: &mut S,
+    out: &mut O,
+    err: &mut E,
+    work: &mut Workspace,
+    state: &mut State,
+    course: &mut Course,
+    watch: &mut Watch,
+    filter: &mut Option<Filter<'_>>,
+    until: u64,
+) -> Result<Came, Stop>
+    requires ready { IsReady job.now feed.old course.old state.old watch.old }
+    requires filter { IfSome filter.old
+        (Filters job.now.plan.now (patterns_in job.now.patterns.now)) }
+    ensures ready { result ≡ Ok Came.Far
+        → IsReady job.now feed.new course.new state.new watch.new }
+    ensures far { result ≡ Ok Came.Far → until ≤ feed.new.number }
+    ensures live { result ≡ Ok (Came.Done None) → feed.new.phase ≢ Closed }
+    ensures taken { (from : Origin) → IsJob job.now.plan.now from.treated job.now.show
+        job.now.most from.feed
+        → StandsAt (work_of job.now) job.now.most from
+        (position (fed feed.old (S.tells source.old))
+        (progress course.old state.old (printed (O.tells out.old) (E.tells err.old))))
+        → TakesPart (work_of job.now) job.now.most from
+        (position (fed feed.new (S.tells source.new))
+        (progress course.new state.new (printed (O.tells out.new) (E.tells err.new)))) result }
+{
+    // A number behind a reference is known to be of its type once it was read: so no count up to it wraps.
+    prove!(job.plan.after_context <= u32::MAX);
+    'line: while feed.number() < until {
+        sift(filter, watch, feed);
+        pass_unseen(job, feed, course, watch);
+        take_ahead(job, feed, out, state, course, watch)?;
+        send_on(feed, source, out)?;
+        match take_turn(job, feed, source, out, err, work, state, course, watch)? {
+            Turn::Took(Next::Line) => {}
+            Turn::Took(Next::Context) => return Ok(Came::Done(None)),
+            Turn::Finished(ended) => return Ok(Came::Done(Some(ended))),
+        }
+    }
+    Ok(Came::Far)
+}
+
 // Takes lines up to the last one that may be selected, or to the end. Says how the scan ends where it ends there.
 fn take_lines<S: Source, O: Sink, E: Sink>(
     job: &Job<'_>,
@@ -688,18 +784,32 @@ fn take_lines<S: Source, O: Sink, E: Sink>(
         (position (fed feed.new (S.tells source.new))
         (progress course.new state.new (printed (O.tells out.new) (E.tells err.new)))) result }
 {
-    // A number behind a reference is known to be of its type once it was read: so no count up to it wraps.
-    prove!(job.plan.after_context <= u32::MAX);
     let mut watch = Watch::new(job.plan, job.patterns);
-    'line: loop {
-        pass_unseen(job, feed, course, &mut watch);
-        take_ahead(job, feed, out, state, course, &mut watch)?;
-        send_on(feed, source, out)?;
-        match take_turn(job, feed, source, out, err, work, state, course, &mut watch)? {
-            Turn::Took(Next::Line) => {}
-            Turn::Took(Next::Context) => return Ok(None),
-            Turn::Finished(ended) => return Ok(Some(ended)),
-        }
+    let mut none = None;
+    match take_until(
+        job, feed, source, out, err, work, state, course, &mut watch, &mut none, LATE,
+    )? {
+        Came::Done(ended) => return Ok(ended),
+        Came::Far => {}
+    }
+    let sieve = Sieve::new(job.alloc, job.plan, job.patterns, &watch);
+    let mut filter = filter_by(job.alloc, &sieve);
+    let mut watch = watch_under(&filter, watch);
+    match take_until(
+        job,
+        feed,
+        source,
+        out,
+        err,
+        work,
+        state,
+        course,
+        &mut watch,
+        &mut filter,
+        u64::MAX,
+    )? {
+        Came::Done(ended) => Ok(ended),
+        Came::Far => unreachable!(),
     }
 }
 

@@ -17,7 +17,7 @@ use Rattle.grep_match.specs.declared.unsearched.Needed.{Needed}
 use Rattle.grep_match.specs.Needed.{IsWithout, NoneAnswers, AreNeeded}
 use Rattle.grep_match.proofs.Searching.{line_none}
 
-or_true : (b : Bool) → (b || true) ≡ true
+pub or_true : (b : Bool) → (b || true) ≡ true
 or_true true = refl
 or_true false = refl
 
@@ -34,7 +34,7 @@ abbrev pub FirstFindNone : MatchOptions → List CodeParts → Needed → ℕ �
 FirstFindNone matching codes needed i =
     (line : List ℕ) → IsWithout needed line → first_answer matching line 0 (patterns_in (drop i codes)) ≡ first_answer matching line 0 (patterns_in codes)
 
-one_none : (matching : MatchOptions) (line : List ℕ) (p : Pattern) (ps : List Pattern) → pattern_answer matching line 0 p ≡ none
+pub one_none : (matching : MatchOptions) (line : List ℕ) (p : Pattern) (ps : List Pattern) → pattern_answer matching line 0 p ≡ none
     → first_answer matching line 0 (p ∷ ps) ≡ first_answer matching line 0 ps
 one_none matching line p ps e = rw (e, first_answer) refl
 

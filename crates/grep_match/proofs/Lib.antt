@@ -2,3 +2,4 @@ pub mod Searching
 pub mod PatternTrees
 pub mod PatternLines
 pub mod Lacking
+pub mod Widening

@@ -5,3 +5,4 @@ pub mod Modes
 pub mod Matches
 pub mod Found
 pub mod Needed
+pub mod Wider

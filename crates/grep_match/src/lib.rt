@@ -7,6 +7,7 @@ mod modes;
 mod patterns;
 mod search;
 mod unsearched;
+mod wider;
 
 pub use ending::line_end;
 pub use found::{MatchList, Place};
@@ -14,3 +15,4 @@ pub use modes::{Mode, is_matching, is_named, mode_of};
 pub use patterns::{PatternError, Patterns};
 pub use search::{Verdict, Workspace, search_line};
 pub use unsearched::{Needed, needed_text};
+pub use wider::{Wider, wider_of};

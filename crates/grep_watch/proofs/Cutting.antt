@@ -9,6 +9,7 @@ use Rattle.std.proofs.lemmas.Str.{IsUtf8-nil, IsUtf8-take, IsUtf8-drop, IsCharBo
 use Rattle.byte_lanes.specs.declared.line_end.EndKind.{EndKind}
 use Rattle.byte_lanes.specs.declared.line_end.EndKind.TheVariants.{Cr, Lf, CrLf, AnyCrLf, Any, AnyUtf, Nul}
 use Rattle.byte_lanes.specs.Newlines.{stands, longest, newline_texts, newline_len}
+use Rattle.byte_lanes.proofs.lemmas.NewlineLemmas.{longest-head, stands_here, stands_nil}
 use Rattle.pcre_io.specs.Told.{Told}
 use Rattle.line_feed.specs.declared.phase.Phase.{Phase}
 use Rattle.line_feed.specs.declared.phase.Phase.TheVariants.{Open, Ended, Missed, Full, Closed}
@@ -109,13 +110,28 @@ longest-ascii (text ∷ texts) bytes k j are l = elim (cases_Bool (stands text b
 
 -- How a row ends: in a newline of ASCII, or with the bytes.
 
-record InNewline (newline : List ℕ) : Type 0 where
+record InNewline (kind : EndKind) (newline : List ℕ) : Type 0 where
   some : 0 < length newline
   ascii : (j : ℕ) → j < length newline → slice_index newline j < 128
+  lf : kind ≡ Lf → newline ≡ 10 ∷ []
 
 record WithBytes (bytes : List ℕ) (row : Row) : Type 0 where
   whole : row.bytes ≡ bytes
   none : row.newline ≡ []
+  some : 0 < length row.bytes
+
+-- the newline that LF ends is one LF
+lf-most : (bytes : List ℕ) (k : ℕ) → newline_len Lf bytes k ≤ 1
+lf-most bytes k =
+    cond_both (stands (10 ∷ []) bytes k) 1 0 (λ n. max n 0 ≤ 1) (λ e. omega arith) (λ e. omega arith)
+
+lf-at : (bytes : List ℕ) (k : ℕ) → 0 < newline_len Lf bytes k → slice_index bytes k ≡ 10
+lf-at bytes k there = longest-head (λ b. b ≡ 10) ((10 ∷ []) ∷ []) bytes k (refl, tt) there
+
+one-byte : (text : List ℕ) → length text ≡ 1 → slice_index text 0 ≡ 10 → text ≡ 10 ∷ []
+one-byte [] long is = absurd (omega (arith, long))
+one-byte (b ∷ []) long is = ap (λ x. x ∷ []) is
+one-byte (b ∷ (c ∷ text)) long is = absurd (omega (arith, long))
 
 abbrev first_bytes : List Row → List ℕ
 first_bytes [] = []
@@ -139,11 +155,15 @@ module _ (kind : EndKind) (max number offset : ℕ) (row : Row) (rest : Rows) wh
       let last : Row = record { bytes = b ∷ bytes; newline = []; number = number; offset = offset } in
       cond_both (nat_lt max (length (b ∷ bytes))) (none_for (Long number)) (ahead last (none_for (At End))) (λ (r : Rows). r ≡ ahead row rest → WithBytes (b ∷ bytes) row)
       (λ over is. absurd (no-rows (Long number) is))
-      (λ few is. record { whole = sym (ap (λ (r : Rows). first_bytes r.rows) is); none = sym (ap (λ (r : Rows). first_end r.rows) is) }) is
+      (λ few is. record {
+        whole = sym (ap (λ (r : Rows). first_bytes r.rows) is);
+        none = sym (ap (λ (r : Rows). first_end r.rows) is);
+        some = let whole = ap (λ (r : Rows). length (first_bytes r.rows)) is in omega (arith, whole);
+      }) is
   last-ends bytes Fault is = cut-ends bytes Fault is
   last-ends bytes Limit is = cut-ends bytes Limit is
 
-  row-ends : (bytes : List ℕ) (ending : Ending) → HasAsciiNewlines kind → rows_from kind max number offset bytes ending ≡ ahead row rest → WithBytes bytes row ⊎ InNewline row.newline
+  row-ends : (bytes : List ℕ) (ending : Ending) → HasAsciiNewlines kind → rows_from kind max number offset bytes ending ≡ ahead row rest → WithBytes bytes row ⊎ InNewline kind row.newline
   row-ends bytes ending ascii is =
       let k = first_newline kind bytes in
       elim (cases_Bool (has_no_row kind bytes ending k)) [
@@ -161,8 +181,13 @@ module _ (kind : EndKind) (max number offset : ℕ) (row : Row) (rest : Rows) wh
               let has = first.holds within in
               let whole : length newline ≡ long = range-long bytes k (k + long) (omega arith) (newline-within kind bytes k (omega (arith, within))) ∙ omega arith in
               let same : newline ≡ row.newline = ap (λ (r : Rows). first_end r.rows) (sym (rows-row kind max number offset bytes ending k refl some (omega (arith, room))) ∙ is) in
-              inr (subst InNewline same (record {
+              let first_byte : slice_index newline 0 ≡ slice_index bytes k =
+              get_or-take (k + long - k) (drop k bytes) 0 0 (omega (arith, has)) ∙ get_or-drop k bytes 0 0 ∙ ap (λ n. slice_index bytes n) {x = k + 0} {y = k} (omega arith) in
+              inr (subst (InNewline kind) same (record {
                 some = omega (arith, whole, has);
+                lf = λ is_lf.
+                    let few = subst (λ e. newline_len e bytes k ≤ 1) (sym is_lf) (lf-most bytes k) in
+                    one-byte newline (omega (arith, whole, has, few)) (first_byte ∙ lf-at bytes k (subst (λ e. 0 < newline_len e bytes k) is_lf has));
                 ascii = λ j l.
                     let at = get_or-take (k + long - k) (drop k bytes) j 0 (omega (arith, l, whole)) ∙ get_or-drop k bytes j 0 in
                     subst (λ b. b < 128) (sym at) (longest-ascii (newline_texts kind) bytes k j (ascii-texts kind ascii) (omega (arith, l, whole)));
@@ -178,12 +203,48 @@ follows-none Full live = (Limit, (refl, refl))
 follows-none Closed live = absurd (live refl)
 
 module _ (f g : Feed) (now after : Told) (row : Row) (gives : Gives f g now after row) (ascii : HasAsciiNewlines f.kind) where
-  given-ends : WithBytes (gives.mid.held ++ []) row ⊎ InNewline row.newline
+  given-ends : WithBytes (gives.mid.held ++ []) row ⊎ InNewline gives.mid.kind row.newline
   given-ends =
       let mid = gives.mid in
       let cuts = gives.cuts in
       let follows = follows-none mid.phase (subst (λ p. p ≢ Closed) cuts.phase gives.live) in
       row-ends mid.kind mid.max (mid.number + 1) mid.offset row _ (mid.held ++ []) follows.0 (subst HasAsciiNewlines (sym gives.reads.moves.kind) ascii) (cuts.rows [] follows.0 follows.1)
+
+  -- where lines end in LF, none is in the row, and one is behind it unless it ends all that was held
+  pub record IsLfRow : Type 0 where
+    pub plain : (k : ℕ) → k < length row.bytes → slice_index row.bytes k ≢ 10
+    pub ends : (row.newline ≡ 10 ∷ []) ⊎ ((0 < length row.bytes) × (length f.held ≤ length row.bytes))
+
+  lf-plain : f.kind ≡ Lf → (k : ℕ) → k < length row.bytes → slice_index row.bytes k ≢ 10
+  lf-plain is_lf k l is =
+      let mid = gives.mid in
+      let held = gives.cuts.bytes in
+      let long = ap length held in
+      let all = length-append (row.bytes ++ row.newline) g.held in
+      let line = length-append row.bytes row.newline in
+      let here : slice_index mid.held k ≡ 10 =
+      ap (λ t. slice_index t k) held ∙ get_or_append_left (row.bytes ++ row.newline) g.held 0 k (omega (arith, l, line))
+      ∙ get_or_append_left row.bytes row.newline 0 k l ∙ is in
+      let kind : Lf ≡ mid.kind = sym is_lf ∙ sym gives.reads.moves.kind in
+      let one : 1 ≡ newline_len Lf mid.held k =
+      sym (ap (λ q. max (cond q 1 0) 0) (stands_here 10 [] mid.held k (omega (arith, l, long, all, line)) here ∙ stands_nil mid.held (k + 1))) in
+      let none = gives.cuts.plain k l in
+      let same = ap (λ e. newline_len e mid.held k) kind in
+      omega (arith, one, none, same)
+
+  pub lf-row : f.kind ≡ Lf → IsLfRow
+  lf-row is_lf = record {
+    plain = lf-plain is_lf;
+    ends = elim given-ends [
+      | inl last ↦
+          let all = ap length last.whole in
+          let third = length-append gives.mid.held [] in
+          let more = ap length gives.reads.moves.held in
+          let taken = length-append f.held gives.reads.moves.taken in
+          inr (last.some, omega (arith, all, third, more, taken))
+      | inr newline ↦ inl (newline.lf (gives.reads.moves.kind ∙ is_lf))
+    ];
+  }
 
   -- the row is UTF-8, and so is what is behind it
   pub record AreValid (q : ℕ) : Type 0 where
@@ -191,7 +252,7 @@ module _ (f g : Feed) (now after : Told) (row : Row) (gives : Gives f g now afte
     pub behind : IsUtf8 (take (q - (length row.bytes + length row.newline)) g.held)
 
   module _ (q : ℕ) (within : length row.bytes + length row.newline ≤ q) (valid : IsUtf8 (take q (row.bytes ++ row.newline ++ g.held))) where
-    in-newline : InNewline row.newline → AreValid q
+    in-newline : InNewline gives.mid.kind row.newline → AreValid q
     in-newline ends =
         let long = length-append row.bytes row.newline in
         let some = ends.some in

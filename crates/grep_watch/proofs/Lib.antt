@@ -1,3 +1,4 @@
 pub mod Cutting
 pub mod Watching
 pub mod Passing
+pub mod Filtering

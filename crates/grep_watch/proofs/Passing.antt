@@ -1,8 +1,10 @@
 -- Lines that are passed over have no match.
-use Rattle.std.proofs.Common.{◌≡◌, ℕ, zero, suc, ◌+◌, ◌-◌, ◌<◌, ◌≤◌, List, [], ◌∷◌, ◌++◌, length, take, Option, None, Some, Ok, refl, sym, ap, subst, ◌∙◌, arith, length-append}
+use Rattle.std.proofs.Common.{◌≡◌, ◌⊎◌, inl, inr, ℕ, zero, suc, ◌+◌, ◌-◌, ◌<◌, ◌≤◌, List, [], ◌∷◌, ◌++◌, length, take, Option, None, Some, Ok, refl, sym, ap, subst, ◌∙◌, arith, length-append}
 use Rattle.std.specs.Prelude.{slice_index, IsTrue, IsUtf8, MatchOption}
 use Rattle.std.specs.List.{All}
-use Rattle.std.proofs.lemmas.List.{get_or_append_left, get_or-append-add}
+use Rattle.std.proofs.lemmas.List.{append_assoc, get_or_append_left, get_or-append-add}
+use Rattle.std.proofs.lemmas.Option.{none-some}
+use Rattle.byte_lanes.specs.declared.line_end.EndKind.TheVariants.{Lf}
 use Rattle.pcre_io.specs.Told.{Told}
 use Rattle.line_feed.specs.Rows.{Row}
 use Rattle.line_feed.specs.View.{Feed}
@@ -16,8 +18,8 @@ use Rattle.grep_match.specs.declared.unsearched.Needed.{Needed}
 use Rattle.grep_match.specs.Matches.{matches}
 use Rattle.grep_watch.specs.declared.watch.Watch.{Watch}
 use Rattle.grep_watch.specs.Watched.{Watches, PassesOver, HasQuietRun, ReachesQuiet, HasAsciiNewlines}
-use Rattle.grep_watch.proofs.Cutting.{AreValid, are-valid}
-use Rattle.grep_watch.proofs.Watching.{same-needed, watches_gives, watches_line, watches_none, watches_behind}
+use Rattle.grep_watch.proofs.Cutting.{AreValid, are-valid, lf-row}
+use Rattle.grep_watch.proofs.Watching.{same-needed, ends-with-lf, watches_gives, watches_line, watches_none, watches_behind}
 
 pub all-nil : {A : Type 0} (P : A → Type 0) → All P []
 all-nil P = λ k d l. absurd (omega arith)
@@ -54,7 +56,7 @@ module _ (bytes newline behind held taken : List ℕ) (n : ℕ) (is : held ++ ta
 abbrev EndsWhole : Needed → Feed → Type 0
 EndsWhole found f = IsTrue found.utf → HasAsciiNewlines f.kind
 
-module _ (plan : GrepPlan) (patterns : List Pattern) (found : Needed) (now : Told) where
+module _ (plan : GrepPlan) (patterns : List Pattern) (now : Told) where
   -- rows that were given, so many bytes in all
   record Over (w : Watch) (f g : Feed) (rows : List Row) : Type 0 where
     sum : ℕ
@@ -65,15 +67,18 @@ module _ (plan : GrepPlan) (patterns : List Pattern) (found : Needed) (now : Tol
   watches-less : (w : Watch) (held : List ℕ) (a b n : ℕ) → Watches plan patterns (record w { quiet = w.quiet - a - b - n }) held → Watches plan patterns (record w { quiet = w.quiet - (a + b + n) }) held
   watches-less w held a b n had = let less : w.quiet - a - b - n ≡ w.quiet - (a + b + n) = omega arith in subst (λ q. Watches plan patterns (record w { quiet = q }) held) less had
 
-  passes-over : (rows : List Row) (w : Watch) (f g : Feed) (n : ℕ) → w.needed ≡ Some found → n ≡ w.quiet → EndsWhole found f → AreBytes f.held n → Watches plan patterns w f.held → GivesAll now n found.most f g rows → Over w f g rows
-  passes-over [] w f g n there is whole are had same = record {
+  over-nothing : (w : Watch) (f g : Feed) → Watches plan patterns w f.held → g ≡ f → Over w f g []
+  over-nothing w f g had same = record {
     sum = 0;
     offset = let at = ap (λ (x : Feed). x.offset) same in omega arith;
     none = all-nil (λ (row : Row). matches plan patterns row.bytes ≡ Ok []);
     watches = let all : w.quiet ≡ w.quiet - 0 = omega arith in
         subst (λ q. Watches plan patterns (record w { quiet = q }) g.held) all (subst (λ (x : Feed). Watches plan patterns w x.held) (sym same) had);
   }
-  passes-over (row ∷ rows) w f g n there is whole are had all =
+
+  passes-over : (found : Needed) (rows : List Row) (w : Watch) (f g : Feed) (n : ℕ) → w.needed ≡ Some found → n ≡ w.quiet → EndsWhole found f → AreBytes f.held n → Watches plan patterns w f.held → GivesAll now n found.most f g rows → Over w f g rows
+  passes-over found [] w f g n there is whole are had same = over-nothing w f g had same
+  passes-over found (row ∷ rows) w f g n there is whole are had all =
       let short = all.0 in
       let long = all.1 in
       let mid = all.2.0 in
@@ -87,11 +92,11 @@ module _ (plan : GrepPlan) (patterns : List Pattern) (found : Needed) (now : Tol
       let line = watches_gives plan patterns w f mid now now row gives had in
       let next : Watch = record w { quiet = w.quiet - a - b } in
       let valid : (on : IsTrue found.utf) → AreValid f mid now now row gives (whole on) w.quiet = λ on. are-valid f mid now now row gives (whole on) w.quiet (omega (arith, long, is)) (line.valid found there on) in
-      let rest = passes-over rows next mid g (n - (a + b)) there (omega (arith, is)) (λ on. subst HasAsciiNewlines (sym (kind-gives f mid now now row gives)) (whole on))
+      let rest = passes-over found rows next mid g (n - (a + b)) there (omega (arith, is)) (λ on. subst HasAsciiNewlines (sym (kind-gives f mid now now row gives)) (whole on))
       (behind-bytes row.bytes row.newline mid.held f.held moves.taken n held (omega (arith, is, within)) are)
       (watches_behind plan patterns w row.bytes row.newline mid.held next.quiet refl (λ some is_some on.
       let counted : w.quiet - (a + b) ≡ w.quiet - a - b = omega arith in
-      subst (λ k. IsUtf8 (take k mid.held)) counted (valid (subst (λ (s : Needed). IsTrue s.utf) (sym (same-needed w.needed found some there is_some)) on)).behind) line) all.2.2 in
+      subst (λ k. IsUtf8 (take k mid.held)) counted (valid (subst (λ (s : Needed). IsTrue s.utf) (sym (same-needed w.needed found some there is_some)) on)).behind) (λ none. absurd (none-some found (sym none ∙ there))) line) all.2.2 in
       let row_offset = cuts.offset in
       let mid_offset = cuts.next_offset in
       let same_offset = moves.offset in
@@ -103,6 +108,44 @@ module _ (plan : GrepPlan) (patterns : List Pattern) (found : Needed) (now : Tol
             (watches_none plan patterns w row.bytes (row.newline ++ mid.held) found there (omega (arith, long, is)) short (λ on. (valid on).line)
             (line-bytes row.bytes row.newline mid.held f.held moves.taken n held (omega (arith, is, within)) are long) (watches_line plan patterns w row.bytes row.newline mid.held line))
             rest.none;
+        watches = watches-less w g.held a b rest.sum rest.watches;
+      }
+
+  -- the same of lines that were found to have no match
+  clear-over : (rows : List Row) (w : Watch) (f g : Feed) (n : ℕ) → w.needed ≡ None → n ≡ w.quiet → f.kind ≡ Lf → Watches plan patterns w f.held → GivesAll now n w.longest f g rows → Over w f g rows
+  clear-over [] w f g n there is lf had same = over-nothing w f g had same
+  clear-over (row ∷ rows) w f g n there is lf had all =
+      let short = all.0 in
+      let long = all.1 in
+      let mid = all.2.0 in
+      let gives = all.2.1 in
+      let moves = gives.reads.moves in
+      let cuts = gives.cuts in
+      let a = length row.bytes in
+      let b = length row.newline in
+      let within = (had.clear there).within in
+      let line = watches_gives plan patterns w f mid now now row gives had in
+      let is_row = lf-row f mid now now row gives (subst HasAsciiNewlines (sym lf) tt) lf in
+      let newline : row.newline ≡ 10 ∷ [] = elim is_row.ends [
+        | inl ends ↦ ends
+        | inr last ↦ let some = last.0 in let more = last.1 in absurd (omega (arith, some, more, long, is, within))
+      ] in
+      let one = ap length newline in
+      let next : Watch = record w { quiet = w.quiet - a - b } in
+      let behind = watches_behind plan patterns w row.bytes row.newline mid.held next.quiet refl (λ some is_some. absurd (none-some some (sym there ∙ is_some)))
+      (λ none. ends-with-lf row.bytes row.newline newline) line in
+      let rest = clear-over rows next mid g (n - (a + b)) there (omega (arith, is)) (kind-gives f mid now now row gives ∙ lf) behind all.2.2 in
+      let text : row.bytes ++ row.newline ++ mid.held ≡ row.bytes ++ (10 ∷ mid.held) =
+      append_assoc row.bytes row.newline mid.held ∙ ap (λ l. row.bytes ++ (l ++ mid.held)) newline in
+      let row_offset = cuts.offset in
+      let mid_offset = cuts.next_offset in
+      let same_offset = moves.offset in
+      let rest_offset = rest.offset in
+      record {
+        sum = a + b + rest.sum;
+        offset = omega arith;
+        none = all-cons (λ (r : Row). matches plan patterns r.bytes ≡ Ok []) row rows
+            ((line.clear there).none [] row.bytes mid.held text (λ k last. absurd (omega (arith, last))) is_row.plain (omega (arith, long, one, is)) short) rest.none;
         watches = watches-less w g.held a b rest.sum rest.watches;
       }
 
@@ -120,11 +163,27 @@ passed-some : (plan : GrepPlan) (patterns : List Pattern) (found : Needed) (w : 
 passed-some plan patterns found w f g passed n there whole are had passes is =
     let now : Told = record { left = None; stop = None; faults = 0 } in
     let within = (had.quiet found there).within in
-    let over = passes-over plan patterns found now passes.rows w f g w.quiet there refl whole (λ k l. are k (omega (arith, l, within))) had (passes.gives now) in
+    let over = passes-over plan patterns now found passes.rows w f g w.quiet there refl whole (λ k l. are k (omega (arith, l, within))) had (passes.gives now) in
     let offset = passes.offset in
     let over_offset = over.offset in
     let same : w.quiet - over.sum ≡ n = omega (arith, is, offset, over_offset) in
     record { none = over.none; watches = subst (λ q. Watches plan patterns (record w { quiet = q }) g.held) same over.watches }
+
+cleared-some : (plan : GrepPlan) (patterns : List Pattern) (w : Watch) (f g : Feed) (passed n : ℕ) → w.needed ≡ None → f.kind ≡ Lf → Watches plan patterns w f.held → (passes : Passes f g w.quiet w.longest passed) → n ≡ w.quiet - passed
+    → IsPassed plan patterns w g passes.rows n
+cleared-some plan patterns w f g passed n there lf had passes is =
+    let now : Told = record { left = None; stop = None; faults = 0 } in
+    let over = clear-over plan patterns now passes.rows w f g w.quiet there refl lf had (passes.gives now) in
+    let offset = passes.offset in
+    let over_offset = over.offset in
+    let same : w.quiet - over.sum ≡ n = omega (arith, is, offset, over_offset) in
+    record { none = over.none; watches = subst (λ q. Watches plan patterns (record w { quiet = q }) g.held) same over.watches }
+
+pub over-clear : (plan : GrepPlan) (patterns : List Pattern) (w : Watch) (f g : Feed) (passed n : ℕ) → w.needed ≡ None → f.kind ≡ Lf → Watches plan patterns w f.held → Passes f g w.quiet w.longest passed → n ≡ w.quiet - passed
+    → PassesOver plan patterns (record w { quiet = n }) f g
+over-clear plan patterns w f g passed n there lf had passes is =
+    let over = cleared-some plan patterns w f g passed n there lf had passes is in
+    record { within = w.quiet; longest = w.longest; rows = passes.rows; gives = passes.gives; none = over.none; watches = over.watches }
 
 pub over-some : (plan : GrepPlan) (patterns : List Pattern) (found : Needed) (w : Watch) (f g : Feed) (passed n : ℕ) → w.needed ≡ Some found → EndsWhole found f → AreBytes f.held (length f.held) → Watches plan patterns w f.held → Passes f g w.quiet found.most passed → n ≡ w.quiet - passed
     → PassesOver plan patterns (record w { quiet = n }) f g
@@ -140,6 +199,19 @@ quiet-run plan patterns found w f run there whole are had has =
     let within = (had.quiet found there).within in
     let long = has.within in
     record { within = w.quiet; longest = found.most; has = has; held = omega (arith, within, long); none = over.none; watches = over.watches }
+
+clear-run : (plan : GrepPlan) (patterns : List Pattern) (w : Watch) (f : Feed) (run : Run) → w.needed ≡ None → f.kind ≡ Lf → Watches plan patterns w f.held → HasRun f w.quiet w.longest run
+    → HasQuietRun plan patterns w f run
+clear-run plan patterns w f run there lf had has =
+    let over = cleared-some plan patterns w f (skipped f run.bytes run.rows) run.bytes (w.quiet - run.bytes) there lf had has.passes refl in
+    let within = (had.clear there).within in
+    let long = has.within in
+    record { within = w.quiet; longest = w.longest; has = has; held = omega (arith, within, long); none = over.none; watches = over.watches }
+
+pub clear-found : (before w : Watch) (f : Feed) → w.needed ≡ None → f.kind ≡ Lf → ((plan : GrepPlan) (patterns : List Pattern) → Watches plan patterns before f.held → Watches plan patterns w f.held)
+    → (ahead : Option Run) → MatchOption ahead (Unit {0}) (λ run. HasRun f w.quiet w.longest run) → MatchOption ahead (Unit {0}) (λ run. (plan : GrepPlan) (patterns : List Pattern) → Watches plan patterns before f.held → HasQuietRun plan patterns w f run)
+clear-found before w f there lf still None has = has
+clear-found before w f there lf still (Some run) has = λ plan patterns had. clear-run plan patterns w f run there lf (still plan patterns had) has
 
 -- those that the feed finds ahead
 pub quiet-found : (before w : Watch) (f : Feed) (found : Needed) → w.needed ≡ Some found → EndsWhole found f → AreBytes f.held (length f.held) → ((plan : GrepPlan) (patterns : List Pattern) → Watches plan patterns before f.held → Watches plan patterns w f.held)
@@ -159,5 +231,19 @@ reaches-quiet plan patterns found w f within there whole are quiet short had = r
         offset = offset;
       } in
       let passed = passed-some plan patterns found w f g bytes (w.quiet - bytes) there whole are had passes refl in
+      (passed.none, passed.watches);
+}
+
+pub reaches-clear : (plan : GrepPlan) (patterns : List Pattern) (w : Watch) (f : Feed) (within : ℕ) → w.needed ≡ None → f.kind ≡ Lf → within ≤ w.quiet → within ≤ w.longest → Watches plan patterns w f.held
+    → ReachesQuiet plan patterns w f within
+reaches-clear plan patterns w f within there lf quiet short had = record {
+  held = let known = (had.clear there).within in omega (arith, quiet, known);
+  over = λ g rows bytes gives offset.
+      let passes : Passes f g w.quiet w.longest bytes = record {
+        rows = rows;
+        gives = λ now. all-more now within w.quiet within w.longest f g rows quiet short (gives now);
+        offset = offset;
+      } in
+      let passed = cleared-some plan patterns w f g bytes (w.quiet - bytes) there lf had passes refl in
       (passed.none, passed.watches);
 }

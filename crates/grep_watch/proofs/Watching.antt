@@ -1,7 +1,10 @@
 -- What is known of the bytes that a feed holds stays known from one line to the next.
-use Rattle.std.proofs.Common.{◌≡◌, ◌∙◌, ℕ, ◌+◌, ◌-◌, ◌<◌, ◌≤◌, List, [], ◌∷◌, ◌++◌, length, take, Bool, true, Option, Some, None, Ok, sym, ap, subst, arith, length-append}
+use Rattle.std.proofs.Common.{◌≡◌, ◌≢◌, ◌∙◌, ℕ, zero, suc, ◌+◌, ◌-◌, ◌<◌, ◌≤◌, List, [], ◌∷◌, ◌++◌, length, take, Bool, true, Option, Some, None, Ok, refl, sym, ap, subst, arith, append-nil, length-append}
 use Rattle.std.specs.Prelude.{slice_index, IfSome, IsTrue, IsUtf8}
-use Rattle.std.proofs.lemmas.List.{append_assoc, get_or_append_left, get_or-append-add, take-append-le}
+use Rattle.std.proofs.Math.Seq.{take-append-add}
+use Rattle.std.proofs.lemmas.Bool.{cases_lt}
+use Rattle.std.proofs.lemmas.Option.{none-some}
+use Rattle.std.proofs.lemmas.List.{append_assoc, get_or_append_left, get_or-append-add, take-append-le, take_all}
 use Rattle.std.proofs.lemmas.Str.{IsUtf8-nil}
 use Rattle.uni_text.specs.Characters.{IsChecked}
 use Rattle.byte_lanes.specs.Sets.{has_byte}
@@ -17,7 +20,7 @@ use Rattle.grep_match.specs.declared.unsearched.Needed.{Needed}
 use Rattle.grep_match.specs.Matches.{matches}
 use Rattle.grep_match.specs.Needed.{AreNeeded}
 use Rattle.grep_watch.specs.declared.watch.Watch.{Watch}
-use Rattle.grep_watch.specs.Watched.{IsQuiet, Watches, EndsInAscii}
+use Rattle.grep_watch.specs.Watched.{IsQuiet, Watches, AreClear, EndsInAscii, EndsInLf}
 use Rattle.grep_watch.proofs.Cutting.{ends-behind, valid-behind}
 
 kept : Option Needed → Needed → Needed
@@ -88,13 +91,81 @@ quiet-behind set sets bytes behind n q =
       lacks = λ k low is. q.lacks (length bytes + k) (omega (arith, low)) (stands_behind (set ∷ sets) bytes behind k is);
     }
 
+-- Lines that have no match.
+
+clear-none : (plan : GrepPlan) (patterns : List Pattern) (longest : ℕ) (held : List ℕ) → AreClear plan patterns longest held 0
+clear-none plan patterns longest held = record { within = omega arith; none = λ before line behind is ends plain low short. absurd (omega (arith, low)) }
+
+-- a line that stands in the bytes held stands there before more is taken
+line-held : (held taken before line behind : List ℕ) → held ++ taken ≡ before ++ (line ++ (10 ∷ behind)) → length before + length line < length held
+    → held ≡ before ++ (line ++ (10 ∷ take (length held - length before - length line - 1) behind))
+line-held held taken before line behind is low =
+    let n = length held in
+    let a = length before in
+    let b = length line in
+    let m = n - a - b - 1 in
+    let first : a + (b + suc m) ≡ n = omega (arith, low) in
+    let whole : take n (held ++ taken) ≡ held = take-append-le n held taken (omega arith) ∙ take_all n held (omega arith) in
+    sym whole ∙ ap (λ l. take n l) is ∙ ap (λ k. take k (before ++ (line ++ (10 ∷ behind)))) (sym first)
+    ∙ take-append-add before (line ++ (10 ∷ behind)) (b + suc m) ∙ ap (λ l. before ++ l) (take-append-add line (10 ∷ behind) (suc m))
+
+module _ (plan : GrepPlan) (patterns : List Pattern) (longest : ℕ) where
+  clear-more : (held taken : List ℕ) (n : ℕ) → AreClear plan patterns longest held n → AreClear plan patterns longest (held ++ taken) n
+  clear-more held taken n c =
+      let long = length-append held taken in
+      let within = c.within in record {
+        within = omega (arith, within, long);
+        none = λ before line behind is ends plain low short.
+            c.none before line (take (length held - length before - length line - 1) behind)
+            (line-held held taken before line behind is (omega (arith, low, within))) ends plain low short;
+      }
+
+  ends-in-lf : (front before : List ℕ) → EndsInLf front → EndsInLf before → EndsInLf (front ++ before)
+  ends-in-lf front [] ends none k last =
+      let same = append-nil front in
+      subst (λ l. slice_index l k ≡ 10) (sym same) (ends k (last ∙ ap length same))
+  ends-in-lf front (b ∷ before) ends more k last =
+      let long = length-append front (b ∷ before) in
+      let at : length front + (k - length front) ≡ k = omega (arith, last, long) in
+      subst (λ n. slice_index (front ++ (b ∷ before)) n ≡ 10) at
+      (get_or-append-add front (b ∷ before) (k - length front) 0 ∙ more (k - length front) (omega (arith, last, long)))
+
+  clear-behind : (front behind : List ℕ) (n : ℕ) → EndsInLf front → AreClear plan patterns longest (front ++ behind) n → AreClear plan patterns longest behind (n - length front)
+  clear-behind front behind n ends c =
+      let long = length-append front behind in
+      let within = c.within in record {
+        within = omega (arith, within, long);
+        none = λ before line rest is has plain low short.
+            let all = length-append front before in
+            c.none (front ++ before) line rest (ap (λ l. front ++ l) is ∙ sym (append_assoc front before (line ++ (10 ∷ rest)))) (ends-in-lf front before ends has) plain
+            (omega (arith, low, all)) short;
+      }
+
+pub ends-with-lf : (bytes newline : List ℕ) → newline ≡ 10 ∷ [] → EndsInLf (bytes ++ newline)
+ends-with-lf bytes newline is k last =
+    let long = length-append bytes newline in
+    let one = ap length is in
+    let at : length bytes + 0 ≡ k = omega (arith, last, long, one) in
+    subst (λ n. slice_index (bytes ++ newline) n ≡ 10) at (get_or-append-add bytes newline 0 0 ∙ ap (λ l. slice_index l 0) is)
+
 -- of no text anything need be known
 pub watches_new : (plan : GrepPlan) (patterns : List Pattern) (needed : Option Needed) → IfSome needed (AreNeeded plan patterns)
-    → (held : List ℕ) → Watches plan patterns (record { needed = needed; quiet = 0 }) held
+    → (held : List ℕ) → Watches plan patterns (record { needed = needed; longest = 0; quiet = 0 }) held
 watches_new plan patterns needed are held = record {
   needed = λ some is. subst (λ o. IfSome o (AreNeeded plan patterns)) is are;
   quiet = λ some is. record { within = omega arith; lacks = λ k low stands. omega (arith, low) };
   valid = λ some is on. IsUtf8-nil;
+  clear = λ none. clear-none plan patterns 0 held;
+}
+
+-- lines were found to have no match
+pub watches_clear : (plan : GrepPlan) (patterns : List Pattern) (w : Watch) (held : List ℕ) (longest n : ℕ) → w.needed ≡ None → AreClear plan patterns longest held n
+    → Watches plan patterns (record w { longest = longest; quiet = n }) held
+watches_clear plan patterns w held longest n none clear = record {
+  needed = λ some is. absurd (none-some some (sym none ∙ is));
+  quiet = λ some is. absurd (none-some some (sym none ∙ is));
+  valid = λ some is on. absurd (none-some some (sym none ∙ is));
+  clear = λ is. clear;
 }
 
 module _ (plan : GrepPlan) (patterns : List Pattern) (w : Watch) where
@@ -105,6 +176,7 @@ module _ (plan : GrepPlan) (patterns : List Pattern) (w : Watch) where
     valid = λ some is on.
         let within = (had.quiet some is).within in
         subst IsUtf8 (sym (take-append-le w.quiet held taken within)) (had.valid some is on);
+    clear = λ none. clear-more plan patterns w.longest held taken w.quiet (had.clear none);
   }
 
   -- the text was looked for
@@ -114,6 +186,7 @@ module _ (plan : GrepPlan) (patterns : List Pattern) (w : Watch) where
     needed = had.needed;
     quiet = λ some is. subst (λ (s : Needed). IsQuiet (sets_of s.text) held n) (same-needed w.needed found some there is) quiet;
     valid = λ some is. subst (λ (s : Needed). IsChecked s.utf (take n held)) (same-needed w.needed found some there is) valid;
+    clear = λ none. absurd (none-some found (sym none ∙ there));
   }
 
   -- it stands nowhere in a line
@@ -132,12 +205,14 @@ module _ (plan : GrepPlan) (patterns : List Pattern) (w : Watch) where
     needed = had.needed;
     quiet = λ some is. record { within = omega arith; lacks = λ k low stands. omega (arith, low) };
     valid = λ some is on. IsUtf8-nil;
+    clear = λ none. clear-none plan patterns w.longest rest;
   }
 
   pub watches_behind : (bytes newline behind : List ℕ) (n : ℕ) → n ≡ w.quiet - length bytes - length newline
-      → ((some : Needed) → w.needed ≡ Some some → IsChecked some.utf (take n behind)) → Watches plan patterns w (bytes ++ newline ++ behind)
+      → ((some : Needed) → w.needed ≡ Some some → IsChecked some.utf (take n behind)) → (w.needed ≡ None → EndsInLf (bytes ++ newline))
+      → Watches plan patterns w (bytes ++ newline ++ behind)
       → Watches plan patterns (record w { quiet = n }) behind
-  watches_behind bytes newline behind n is valid had = record {
+  watches_behind bytes newline behind n is valid ends had = record {
     needed = had.needed;
     quiet = λ some there.
         let long = length-append bytes newline in
@@ -145,17 +220,23 @@ module _ (plan : GrepPlan) (patterns : List Pattern) (w : Watch) where
         subst (IsQuiet (sets_of some.text) behind) same
         (quiet-behind some.text.first (behind_of some.text.second some.text.third) (bytes ++ newline) behind w.quiet (had.quiet some there));
     valid = valid;
+    clear = λ none.
+        let long = length-append bytes newline in
+        let same : w.quiet - length (bytes ++ newline) ≡ n = omega (arith, long, is) in
+        subst (AreClear plan patterns w.longest behind) same (clear-behind plan patterns w.longest (bytes ++ newline) behind w.quiet (ends none) (had.clear none));
   }
 
   -- behind a newline of ASCII it goes on with a character
   pub watches_left : (bytes newline behind : List ℕ) (n : ℕ) → n ≡ w.quiet - length bytes - length newline
-      → ((some : Needed) → w.needed ≡ Some some → IsTrue some.utf → EndsInAscii newline) → Watches plan patterns w (bytes ++ newline ++ behind)
+      → ((some : Needed) → w.needed ≡ Some some → IsTrue some.utf → EndsInAscii newline) → (w.needed ≡ None → newline ≡ 10 ∷ [])
+      → Watches plan patterns w (bytes ++ newline ++ behind)
       → Watches plan patterns (record w { quiet = n }) behind
-  watches_left bytes newline behind n is ends had =
+  watches_left bytes newline behind n is ends lf had =
       watches_behind bytes newline behind n is (λ some there on.
       let long = length-append bytes newline in
       let same : w.quiet - length (bytes ++ newline) ≡ n = omega (arith, long, is) in
-      subst (λ k. IsUtf8 (take k behind)) same (valid-behind (bytes ++ newline) behind w.quiet (ends-behind bytes newline (ends some there on)) (had.valid some there on))) had
+      subst (λ k. IsUtf8 (take k behind)) same (valid-behind (bytes ++ newline) behind w.quiet (ends-behind bytes newline (ends some there on)) (had.valid some there on)))
+      (λ none. ends-with-lf bytes newline (lf none)) had
 
   -- what the feed held begins with the line that it gives
   pub watches_gives : (f g : Feed) (now after : Told) (row : Row) → Gives f g now after row → Watches plan patterns w f.held

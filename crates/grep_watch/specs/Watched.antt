@@ -1,5 +1,5 @@
 -- Lines that are passed over without a search.
-use Rattle.std.specs.Prelude.{◌≡◌, ℕ, ◌+◌, ◌-◌, ◌<◌, ◌≤◌, Bool, List, [], length, take, drop, slice_index, Some, Ok, ⊤}
+use Rattle.std.specs.Prelude.{◌≡◌, ◌≢◌, ℕ, ◌+◌, ◌-◌, ◌<◌, ◌≤◌, Bool, List, [], ◌∷◌, ◌++◌, length, take, drop, slice_index, None, Some, Ok, ⊤}
 use Rattle.std.specs.List.{All}
 use Rattle.byte_lanes.specs.declared.line_end.EndKind.{EndKind}
 use Rattle.byte_lanes.specs.declared.line_end.EndKind.TheVariants.{Cr, Lf, CrLf, AnyCrLf, Any, AnyUtf, Nul}
@@ -36,16 +36,30 @@ HasAsciiNewlines Nul = ⊤
 abbrev pub EndsInAscii : List ℕ → Type 0
 EndsInAscii text = (0 < length text) × (slice_index text (length text - 1) < 128)
 
+-- a text whose last byte, where it has one, is an LF
+abbrev pub EndsInLf : List ℕ → Type 0
+EndsInLf text = (k : ℕ) → k + 1 ≡ length text → slice_index text k ≡ 10
+
+-- of the lines whose LF is among the first n bytes, those of at most so many bytes have no match
+pub record AreClear (plan : GrepPlan) (patterns : List Pattern) (longest : ℕ) (held : List ℕ) (n : ℕ)
+    : Type 0 where
+  pub within : n ≤ length held - 1
+  pub none : (before line behind : List ℕ) → held ≡ before ++ (line ++ (10 ∷ behind)) → EndsInLf before
+      → ((k : ℕ) → k < length line → slice_index line k ≢ 10)
+      → length before + length line < n → length line ≤ longest → matches plan patterns line ≡ Ok []
+
 -- so many bytes are known to be quiet
 abbrev pub with_quiet : Watch → ℕ → Watch
 with_quiet w n = record w { quiet = n }
 
--- the needed text is that of the patterns, and what is known holds of the bytes that a feed holds
+-- The needed text is that of the patterns, and what is known holds of the bytes that a feed holds: where a text is needed,
+-- that it doesn't stand in the quiet bytes; else that lines in them have no match.
 pub record Watches (plan : GrepPlan) (patterns : List Pattern) (w : Watch) (held : List ℕ)
     : Type 0 where
   pub needed : (some : Needed) → w.needed ≡ Some some → AreNeeded plan patterns some
   pub quiet : (some : Needed) → w.needed ≡ Some some → IsQuiet (sets_of some.text) held w.quiet
   pub valid : (some : Needed) → w.needed ≡ Some some → IsChecked some.utf (take w.quiet held)
+  pub clear : w.needed ≡ None → AreClear plan patterns w.longest held w.quiet
 
 -- rows without a match were given one after the other, and nothing was read
 pub record PassesOver (plan : GrepPlan) (patterns : List Pattern) (w : Watch) (f g : Feed)

@@ -1,5 +1,5 @@
 //! Lines that are passed over without a search.
-ghost use Rattle.std.specs.Prelude.{◌≡◌, ◌≢◌, ◌++◌, ◌-◌, ℕ, ◌<◌, ◌≤◌, List, [], length, take, IsTrue, IsUtf8, Some, Ok, slice_index, MatchOption};
+ghost use Rattle.std.specs.Prelude.{◌≡◌, ◌≢◌, ◌++◌, ◌∷◌, ◌-◌, ℕ, ◌<◌, ◌≤◌, List, [], length, take, IsTrue, IsUtf8, None, Some, Ok, slice_index, MatchOption};
 ghost use Rattle.uni_text.specs.Characters.{IsChecked};
 ghost use Rattle.pat_needs.specs.Texts.{sets_of};
 ghost use Rattle.pat_tree.specs.Pattern.{Pattern};
@@ -9,6 +9,7 @@ ghost use Rattle.grep_match.specs.Compiled.{patterns_in};
 ghost use Rattle.grep_match.specs.Matches.{matches};
 ghost use Rattle.grep_watch.specs.Watched.{IsQuiet, Watches, PassesOver, HasQuietRun, ReachesQuiet, HasAsciiNewlines, EndsInAscii, with_quiet};
 ghost use Rattle.line_feed.specs.declared.phase.Phase.TheVariants.{Closed};
+ghost use Rattle.byte_lanes.specs.declared.line_end.EndKind.TheVariants.{Lf};
 
 use byte_lanes::EndKind;
 use grep_args::GrepPlan;
@@ -19,21 +20,24 @@ use uni_text::check;
 /// What is known of the bytes that a feed holds.
 #[derive(Drop)]
 pub struct Watch {
-    /// A text that every match takes, where one is known.
+    /// A text that every match takes, where one is known and no filter takes its place.
     pub needed: Option<Needed>,
-    /// In so many first bytes it stands nowhere, as far as is known. Where lines must be UTF-8, these are.
+    /// So many bytes a line may have that a filter has passed.
+    pub longest: usize,
+    /// In so many first bytes the text stands nowhere, as far as is known, and where lines must be UTF-8 these are. Under
+    /// a filter lines whose LF is among them have no match, unless they are too long.
     pub quiet: usize,
 }
 
 // Each of them is a byte, which is known of a slice once it was read.
-fn are_bytes(bytes: &[u8])
+pub(crate) fn are_bytes(bytes: &[u8])
     ensures { (k : ℕ) → k < length bytes.now → slice_index bytes.now k < 256 }
 {
     let _bytes = bytes;
 }
 
 // How many first bytes are UTF-8.
-fn valid_len(bytes: &[u8]) -> usize
+pub(crate) fn valid_len(bytes: &[u8]) -> usize
     ensures within { result ≤ length bytes.now }
     ensures valid { IsUtf8 (take result bytes.now) }
 {
@@ -73,6 +77,20 @@ fn has_ascii_newlines(kind: EndKind) -> bool
     }
 }
 
+// Whether lines end in LF.
+fn ends_in_lf(feed: &LineFeed) -> bool
+    ensures { IsTrue result → feed.now.kind ≡ Lf }
+{
+    feed.kind() == EndKind::Lf
+}
+
+// Whether it is an LF.
+fn is_lf(end: &[u8]) -> bool
+    ensures { IsTrue result → end.now ≡ 10 ∷ [] }
+{
+    end.len() == 1 && end[0] == 10
+}
+
 // Whether a character begins behind each line that the feed gives, where lines must be UTF-8.
 fn gives_whole(needed: &Needed, feed: &LineFeed) -> bool
     ensures { IsTrue result → IsTrue needed.now.utf → HasAsciiNewlines feed.now.kind }
@@ -94,6 +112,19 @@ impl Watch {
     {
         Watch {
             needed: needed_text(plan, patterns),
+            longest: 0,
+            quiet: 0,
+        }
+    }
+
+    /// Nothing is known, and a filter will tell.
+    pub fn blank() -> Watch
+        ensures { (plan : GrepPlan) (patterns : List Pattern) (held : List ℕ)
+            → Watches plan patterns result held }
+    {
+        Watch {
+            needed: None,
+            longest: 0,
             quiet: 0,
         }
     }
@@ -129,6 +160,9 @@ impl Watch {
                 let passed = feed.pass(self.quiet, needed.most as usize);
                 self.quiet = self.quiet.saturating_sub(passed);
             }
+        } else if ends_in_lf(feed) {
+            let passed = feed.pass(self.quiet, self.longest);
+            self.skip(passed);
         }
     }
 
@@ -151,6 +185,8 @@ impl Watch {
             if gives_whole(needed, feed) {
                 return feed.run(self.quiet, needed.most as usize);
             }
+        } else if ends_in_lf(feed) {
+            return feed.run(self.quiet, self.longest);
         }
         None
     }
@@ -174,6 +210,9 @@ impl Watch {
                 let within = self.quiet.min(needed.most as usize);
                 return Some(within);
             }
+        } else if ends_in_lf(feed) {
+            let within = self.quiet.min(self.longest);
+            return Some(within);
         }
         None
     }
@@ -202,6 +241,13 @@ impl Watch {
             && is_checked(line, needed.utf)
     }
 
+    // Whether a filter may look on: no text is looked for, and nothing is known.
+    pub(crate) fn wants_filter(&self) -> bool
+        ensures { IsTrue result → self.now.needed ≡ None }
+    {
+        self.quiet == 0 && self.needed.is_none()
+    }
+
     // Whether lines must be UTF-8.
     fn is_utf(&self) -> bool
         ensures { (some : Needed) → self.now.needed ≡ Some some → result ≡ some.utf }
@@ -212,11 +258,16 @@ impl Watch {
         }
     }
 
-    // Whether a character begins behind the line, where it must be UTF-8.
+    // Whether what is known stays known behind the line: a character begins there, where lines must be UTF-8, and under a
+    // filter a line.
     fn is_whole(&self, line: &Line<'_>) -> bool
-        ensures { IsTrue result → (some : Needed) → self.now.needed ≡ Some some
+        ensures text { IsTrue result → (some : Needed) → self.now.needed ≡ Some some
             → IsTrue some.utf → EndsInAscii line.now.end.now }
+        ensures clear { IsTrue result → self.now.needed ≡ None → line.now.end.now ≡ 10 ∷ [] }
     {
+        if self.needed.is_none() {
+            return is_lf(line.end);
+        }
         !self.is_utf() || ends_in_ascii(line.end)
     }
 

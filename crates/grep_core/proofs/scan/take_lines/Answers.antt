@@ -1,25 +1,15 @@
-use Rattle.std.proofs.Common.{rules, ◌≢◌, ◌≡◌, subst, ◌<◌, ◌^◌, length, Ok, Err, arith, refl, sym, ap, ◌∙◌}
-use Rattle.grep_core.proofs.scan.take_lines.Goals as goal
-use Rattle.grep_match.specs.Compiled.{patterns_in}
-use Rattle.grep_core.specs.declared.scan.Next.TheVariants.{Line}
-use Rattle.grep_core.specs.declared.scan.Turn.TheVariants.{Took}
-use Rattle.grep_watch.specs.Watched.{Watches}
+use Rattle.std.proofs.Common.{rules, ◌≡◌, length, Ok, Err, ap, sym, subst, arith}
 use Rattle.grep_core.specs.Work.{work_of, progress, fed, position}
+use Rattle.grep_core.specs.Underway.{Origin}
 use Rattle.grep_core.specs.WholeScans.{TakesAll}
-use Rattle.line_feed.proofs.Given.{live-gives}
-use Rattle.grep_core.proofs.ScansTaken.{standing-line, standing-pauses}
-use Rattle.grep_core.proofs.ScansEnd.{scans-ends, scans-stops}
-use Rattle.grep_core.proofs.ScansLoop.{Keeps, standing-begun, keeps-more, gave}
-use Rattle.grep_core.proofs.ScansSent.{standing-sent, scans-unsent}
-use Rattle.grep_core.proofs.Ahead.{ahead-live, ahead-max, ahead-offset, ahead-limit, ahead-longest, ahead-keeps, ahead-standing, scans-cut}
-use Rattle.grep_core.proofs.Unseen.{unseen-live, unseen-max, unseen-offset, unseen-keeps, unseen-standing}
-use Rattle.line_feed.specs.View.{Feed}
-use Rattle.line_feed.specs.declared.phase.Phase.TheVariants.{Closed}
+use Rattle.grep_core.proofs.ScansLoop.{standing-begun}
 use Rattle.tool_io.specs.Printed.{printed}
+use Rattle.grep_core.proofs.scan.take_lines.Goals as goal
 
-pub line-init : goal.line-init
-line-init g c = record {
+pub take_until-requires-clause-ready : goal.take_until-requires-clause-ready
+take_until-requires-clause-ready g c = record {
   live = c.requires.live;
+  longest = c.requires.longest;
   keeps =
       let first = c.requires.first in
       let selected = c.requires.selected in
@@ -35,143 +25,51 @@ line-init g c = record {
       };
   watch = c.new-watch.ensures c.args.feed.now.held;
   limit = λ is. c.requires.limit;
-  longest = c.requires.longest;
-  standing = λ before treated job stood. standing-begun _ _ treated _ before _ _ _ _ _ job stood c.requires.selected c.requires.context c.requires.earlier c.requires.errors;
 }
 
-pub take_ahead-requires-clause-live : goal.take_ahead-requires-clause-live
-take_ahead-requires-clause-live g c = unseen-live _ _ _ _ _ c.pass_unseen.ensures c.line.invariant.live
-
-pub take_ahead-requires-clause-max : goal.take_ahead-requires-clause-max
-take_ahead-requires-clause-max g c =
-    let same = unseen-max _ _ _ _ _ c.pass_unseen.ensures in
-    let had = c.line.invariant.keeps.max in
-    omega (arith, same, had)
-
-pub take_ahead-requires-clause-longest : goal.take_ahead-requires-clause-longest
-take_ahead-requires-clause-longest g c =
-    let same = unseen-max _ _ _ _ _ c.pass_unseen.ensures in
-    let least = c.line.invariant.longest in
-    omega (arith, same, least)
-
-pub take_turn-requires-clause-live : goal.take_turn-requires-clause-live
-take_turn-requires-clause-live g c = subst (λ (f : Feed). f.phase ≢ Closed) (sym c.send_on.ensures.same) (ahead-live _ _ _ _ _ _ (c.in_ok-take_ahead.ensures.taken (g.E.Sink.tells c.line.err)) (unseen-live _ _ _ _ _ c.pass_unseen.ensures c.line.invariant.live))
-
-pub take_turn-requires-clause-max : goal.take_turn-requires-clause-max
-take_turn-requires-clause-max g c =
-    let few : c.args.job.now.plan.now.after_context < 2 ^ 32 = let most = c.if-prove.false in omega arith in
-    let kept = subst (λ (f : Feed). Keeps f c.take_ahead.new.course c.take_ahead.new.state) (sym c.send_on.ensures.same) (ahead-keeps _ _ _ _ _ _ (c.in_ok-take_ahead.ensures.taken (g.E.Sink.tells c.line.err)) few (unseen-keeps _ c.line.course c.line.state _ _ _ c.pass_unseen.ensures few c.line.invariant.keeps)) in kept.max
-
-pub take_turn-requires-clause-numbered : goal.take_turn-requires-clause-numbered
-take_turn-requires-clause-numbered g c =
-    let few : c.args.job.now.plan.now.after_context < 2 ^ 32 = let most = c.if-prove.false in omega arith in
-    let kept = subst (λ (f : Feed). Keeps f c.take_ahead.new.course c.take_ahead.new.state) (sym c.send_on.ensures.same) (ahead-keeps _ _ _ _ _ _ (c.in_ok-take_ahead.ensures.taken (g.E.Sink.tells c.line.err)) few (unseen-keeps _ c.line.course c.line.state _ _ _ c.pass_unseen.ensures few c.line.invariant.keeps)) in kept.numbered
-
-pub take_turn-requires-clause-earlier : goal.take_turn-requires-clause-earlier
-take_turn-requires-clause-earlier g c =
-    let few : c.args.job.now.plan.now.after_context < 2 ^ 32 = let most = c.if-prove.false in omega arith in
-    let kept = subst (λ (f : Feed). Keeps f c.take_ahead.new.course c.take_ahead.new.state) (sym c.send_on.ensures.same) (ahead-keeps _ _ _ _ _ _ (c.in_ok-take_ahead.ensures.taken (g.E.Sink.tells c.line.err)) few (unseen-keeps _ c.line.course c.line.state _ _ _ c.pass_unseen.ensures few c.line.invariant.keeps)) in kept.earlier
-
-pub take_turn-requires-clause-context : goal.take_turn-requires-clause-context
-take_turn-requires-clause-context g c =
-    let few : c.args.job.now.plan.now.after_context < 2 ^ 32 = let most = c.if-prove.false in omega arith in
-    let kept = ahead-keeps _ _ _ _ _ _ (c.in_ok-take_ahead.ensures.taken (g.E.Sink.tells c.line.err)) few (unseen-keeps _ c.line.course c.line.state _ _ _ c.pass_unseen.ensures few c.line.invariant.keeps) in kept.context
-
-pub take_turn-requires-clause-selected : goal.take_turn-requires-clause-selected
-take_turn-requires-clause-selected g c =
-    let few : c.args.job.now.plan.now.after_context < 2 ^ 32 = let most = c.if-prove.false in omega arith in
-    let kept = ahead-keeps _ _ _ _ _ _ (c.in_ok-take_ahead.ensures.taken (g.E.Sink.tells c.line.err)) few (unseen-keeps _ c.line.course c.line.state _ _ _ c.pass_unseen.ensures few c.line.invariant.keeps) in let count = kept.selected in let number = kept.number in omega (arith, count, number)
-
-pub take_turn-requires-clause-errors : goal.take_turn-requires-clause-errors
-take_turn-requires-clause-errors g c =
-    let few : c.args.job.now.plan.now.after_context < 2 ^ 32 = let most = c.if-prove.false in omega arith in
-    let kept = ahead-keeps _ _ _ _ _ _ (c.in_ok-take_ahead.ensures.taken (g.E.Sink.tells c.line.err)) few (unseen-keeps _ c.line.course c.line.state _ _ _ c.pass_unseen.ensures few c.line.invariant.keeps) in kept.errors
-
-pub take_turn-requires-clause-longest : goal.take_turn-requires-clause-longest
-take_turn-requires-clause-longest g c =
-    let same = ap (λ (f : Feed). f.max) c.send_on.ensures.same ∙ ahead-max _ _ _ _ _ _ (c.in_ok-take_ahead.ensures.taken (g.E.Sink.tells c.line.err)) ∙ unseen-max _ _ _ _ _ c.pass_unseen.ensures in
-    let longest = ahead-longest _ _ _ _ _ _ (c.in_ok-take_ahead.ensures.taken (g.E.Sink.tells c.line.err)) in
-    let least = c.line.invariant.longest in
-    omega (arith, same, longest, least)
-
-pub take_turn-requires-clause-limit : goal.take_turn-requires-clause-limit
-take_turn-requires-clause-limit g c = λ is. ahead-limit _ _ _ _ _ _ (c.in_ok-take_ahead.ensures.taken (g.E.Sink.tells c.line.err)) ∙ c.line.invariant.limit is
-
-pub take_turn-requires-clause-watch : goal.take_turn-requires-clause-watch
-take_turn-requires-clause-watch g c =
-    subst (λ (f : Feed). Watches c.args.job.now.plan.now (patterns_in c.args.job.now.patterns.now) c.take_ahead.new.watch f.held) (sym c.send_on.ensures.same) c.in_ok-take_ahead.ensures.watch
-
-pub returns-in_err-take_turn-clause-taken : goal.returns-in_err-take_turn-clause-taken
-returns-in_err-take_turn-clause-taken g c = λ before treated job stood.
+pub returns-in_err-ended-clause-taken : goal.returns-in_err-ended-clause-taken
+returns-in_err-ended-clause-taken g c = λ before treated job stood.
     let job_is = c.args.job.now in
-    let stop = c.in_err-take_turn.field-0.0 in
-    let same : c.from_residual-in_err-take_turn.result ≡ Err stop = search rules in
-    subst
-    (TakesAll (work_of job_is) job_is.most treated (position (fed c.args.feed.now before) (progress c.args.course.now c.args.state.now (printed (g.O.Sink.tells c.args.out.now) (g.E.Sink.tells c.args.err.now))))
-    (position (fed c.take_turn.new.feed (g.S.Source.tells c.take_turn.new.source)) (progress c.take_turn.new.course c.take_turn.new.state (printed (g.O.Sink.tells c.take_turn.new.out) (g.E.Sink.tells c.take_turn.new.err)))))
-    (sym same)
-    (scans-stops _ _ treated _ _ job before _ _ _ _ _ _ _ _ _ _ _ _ _ _ (standing-sent _ _ treated _ before _ _ _ _ _ _ _ _ _ (ahead-standing _ _ _ _ _ _ (c.in_ok-take_ahead.ensures.taken (g.E.Sink.tells c.line.err)) treated _ before _ _ _ (unseen-standing _ c.line.course c.line.state _ _ _ c.pass_unseen.ensures _ treated _ before _ _ _ _ _ c.line.invariant.keeps.errors (c.line.invariant.standing before treated job stood))) _ c.send_on.ensures.same c.in_ok-send_on.ensures.sent) stop c.in_err-take_turn.ensures.turns)
-
-pub line-smaller : goal.line-smaller
-line-smaller g c =
-    let row = rw c.in-Took-Line.field-0-is at (rw c.in-Took-Line.is at c.in_ok-take_turn.ensures.turns) in
-    let grew = gave _ _ _ _ row.row row.gives in
-    let more = grew.offset in
-    let limit = grew.limit in
-    let same = ap (λ (f : Feed). f.offset) c.send_on.ensures.same in
-    let passed = unseen-offset _ _ _ _ _ c.pass_unseen.ensures in
-    let taken = ahead-offset _ _ _ _ _ _ (c.in_ok-take_ahead.ensures.taken (g.E.Sink.tells c.line.err)) in
-    omega (arith, more, limit, same, passed, taken)
-
-pub line-preserved : goal.line-preserved
-line-preserved g c =
-    let row = rw c.in-Took-Line.field-0-is at (rw c.in-Took-Line.is at c.in_ok-take_turn.ensures.turns) in
-    let few : c.args.job.now.plan.now.after_context < 2 ^ 32 = let most = c.if-prove.false in omega arith in
-    let had = c.line.invariant in
-    let kept = subst (λ (f : Feed). Keeps f c.take_ahead.new.course c.take_ahead.new.state) (sym c.send_on.ensures.same) (ahead-keeps _ _ _ _ _ _ (c.in_ok-take_ahead.ensures.taken (g.E.Sink.tells c.line.err)) few (unseen-keeps _ c.line.course c.line.state _ _ _ c.pass_unseen.ensures few had.keeps)) in
-    record {
-      live = live-gives _ _ _ _ row.row row.gives;
-      keeps = keeps-more (work_of c.args.job.now) c.args.job.now.most _ _ _ _ row.row _ _ _ _ _ _ _ _ _ _ few refl kept row.gives row.takes;
-      watch = c.in_ok-take_turn.ensures.watch Line (ap (λ t. Ok t) (c.in-Took-Line.is ∙ ap Took c.in-Took-Line.field-0-is));
-      limit = λ is. row.takes.limit ∙ ahead-limit _ _ _ _ _ _ (c.in_ok-take_ahead.ensures.taken (g.E.Sink.tells c.line.err)) ∙ had.limit is;
-      longest =
-          let grew = gave _ _ _ _ row.row row.gives in
-          let max = grew.max in
-          let same = ap (λ (f : Feed). f.max) c.send_on.ensures.same ∙ ahead-max _ _ _ _ _ _ (c.in_ok-take_ahead.ensures.taken (g.E.Sink.tells c.line.err)) ∙ unseen-max _ _ _ _ _ c.pass_unseen.ensures in
-          let least = had.longest in
-          let longest = row.takes.longest ∙ ahead-longest _ _ _ _ _ _ (c.in_ok-take_ahead.ensures.taken (g.E.Sink.tells c.line.err)) in
-          omega (arith, max, same, least, longest);
-      standing = λ before treated job stood. standing-line _ _ treated _ before _ _ _ _ row.row _ _ _ _ _ _ _ _ _ _ (standing-sent _ _ treated _ before _ _ _ _ _ _ _ _ _ (ahead-standing _ _ _ _ _ _ (c.in_ok-take_ahead.ensures.taken (g.E.Sink.tells c.line.err)) treated _ before _ _ _ (unseen-standing _ c.line.course c.line.state _ _ _ c.pass_unseen.ensures _ treated _ before _ _ _ _ _ had.keeps.errors (had.standing before treated job stood))) _ c.send_on.ensures.same c.in_ok-send_on.ensures.sent) row.gives row.takes;
-    }
-
-pub returns-in-Took-Context-clause-taken : goal.returns-in-Took-Context-clause-taken
-returns-in-Took-Context-clause-taken g c = λ before treated job stood.
-    let row = rw c.in-Took-Context.field-0-is at (rw c.in-Took-Context.is at c.in_ok-take_turn.ensures.turns) in
-    standing-pauses _ _ treated _ before _ _ _ _ row.row _ _ _ _ _ _ _ _ _ _ (standing-sent _ _ treated _ before _ _ _ _ _ _ _ _ _ (ahead-standing _ _ _ _ _ _ (c.in_ok-take_ahead.ensures.taken (g.E.Sink.tells c.line.err)) treated _ before _ _ _ (unseen-standing _ c.line.course c.line.state _ _ _ c.pass_unseen.ensures _ treated _ before _ _ _ _ _ c.line.invariant.keeps.errors (c.line.invariant.standing before treated job stood))) _ c.send_on.ensures.same c.in_ok-send_on.ensures.sent) row.gives c.args.feed.now c.args.course.now row.takes
-
-pub returns-in-Finished-clause-taken : goal.returns-in-Finished-clause-taken
-returns-in-Finished-clause-taken g c = λ before treated job stood.
-    let ends = rw c.in-Finished.is at c.in_ok-take_turn.ensures.turns in
-    scans-ends _ _ treated _ _ job before _ _ _ _ _ _ _ _ _ _ _ _ _ _ (standing-sent _ _ treated _ before _ _ _ _ _ _ _ _ _ (ahead-standing _ _ _ _ _ _ (c.in_ok-take_ahead.ensures.taken (g.E.Sink.tells c.line.err)) treated _ before _ _ _ (unseen-standing _ c.line.course c.line.state _ _ _ c.pass_unseen.ensures _ treated _ before _ _ _ _ _ c.line.invariant.keeps.errors (c.line.invariant.standing before treated job stood))) _ c.send_on.ensures.same c.in_ok-send_on.ensures.sent) c.in-Finished.ended ends.0 ends.1
-
-pub returns-in_err-send_on-clause-taken : goal.returns-in_err-send_on-clause-taken
-returns-in_err-send_on-clause-taken g c = λ before treated job stood.
-    let job_is = c.args.job.now in
-    let stop = c.in_err-send_on.field-0.0 in
-    let same : c.from_residual-in_err-send_on.result ≡ Err stop = search rules in
-    subst
-    (TakesAll (work_of job_is) job_is.most treated (position (fed c.args.feed.now before) (progress c.args.course.now c.args.state.now (printed (g.O.Sink.tells c.args.out.now) (g.E.Sink.tells c.args.err.now))))
-    (position (fed c.send_on.new.feed (g.S.Source.tells c.line.source)) (progress c.take_ahead.new.course c.take_ahead.new.state (printed (g.O.Sink.tells c.send_on.new.out) (g.E.Sink.tells c.line.err)))))
-    (sym same)
-    (scans-unsent _ _ treated _ before _ _ _ _ _ _ _ _ _ (ahead-standing _ _ _ _ _ _ (c.in_ok-take_ahead.ensures.taken (g.E.Sink.tells c.line.err)) treated _ before _ _ _ (unseen-standing _ c.line.course c.line.state _ _ _ c.pass_unseen.ensures _ treated _ before _ _ _ _ _ c.line.invariant.keeps.errors (c.line.invariant.standing before treated job stood))) _ job stop c.in_err-send_on.ensures.sent)
-
-pub returns-in_err-take_ahead-clause-taken : goal.returns-in_err-take_ahead-clause-taken
-returns-in_err-take_ahead-clause-taken g c = λ before treated job stood.
-    let job_is = c.args.job.now in
-    let stop = c.in_err-take_ahead.field-0.0 in
+    let out = g.O.Sink.tells c.args.out.now in
+    let err = g.E.Sink.tells c.args.err.now in
+    let from : Origin = record { treated = treated; before = before; feed = c.args.feed.now; course = c.args.course.now; state = c.args.state.now; out = out; err = err } in
+    let stop = c.in_err-ended.field-0.0 in
     let same : c.from_residual.result ≡ Err stop = search rules in
     subst
-    (TakesAll (work_of job_is) job_is.most treated (position (fed c.args.feed.now before) (progress c.args.course.now c.args.state.now (printed (g.O.Sink.tells c.args.out.now) (g.E.Sink.tells c.args.err.now))))
-    (position (fed c.take_ahead.new.feed (g.S.Source.tells c.line.source)) (progress c.take_ahead.new.course c.take_ahead.new.state (printed (g.O.Sink.tells c.take_ahead.new.out) (g.E.Sink.tells c.line.err)))))
+    (TakesAll (work_of job_is) job_is.most treated (position (fed c.args.feed.now before) (progress c.args.course.now c.args.state.now (printed out err)))
+    (position (fed c.take_until.new.feed (g.S.Source.tells c.take_until.new.source)) (progress c.take_until.new.course c.take_until.new.state (printed (g.O.Sink.tells c.take_until.new.out) (g.E.Sink.tells c.take_until.new.err)))))
     (sym same)
-    (scans-cut _ _ treated _ before _ _ _ _ _ _ job _ _ stop (unseen-standing _ c.line.course c.line.state _ _ _ c.pass_unseen.ensures _ treated _ before _ _ _ _ _ c.line.invariant.keeps.errors (c.line.invariant.standing before treated job stood)) (c.in_err-take_ahead.ensures.taken (g.E.Sink.tells c.line.err)))
+    (c.in_err-ended.ensures.taken from job
+    (standing-begun _ _ treated _ before _ _ _ _ _ job stood c.requires.selected c.requires.context c.requires.earlier c.requires.errors))
+
+pub returns-in-Done-clause-taken : goal.returns-in-Done-clause-taken
+returns-in-Done-clause-taken g c = λ before treated job stood.
+    let out = g.O.Sink.tells c.args.out.now in
+    let err = g.E.Sink.tells c.args.err.now in
+    let from : Origin = record { treated = treated; before = before; feed = c.args.feed.now; course = c.args.course.now; state = c.args.state.now; out = out; err = err } in
+    rw c.in-Done.is at (c.in_ok-ended.ensures.taken from job
+    (standing-begun _ _ treated _ before _ _ _ _ _ job stood c.requires.selected c.requires.context c.requires.earlier c.requires.errors))
+
+pub returns-in_err-ended-2-clause-taken : goal.returns-in_err-ended-2-clause-taken
+returns-in_err-ended-2-clause-taken g c = λ before treated job stood.
+    let job_is = c.args.job.now in
+    let out = g.O.Sink.tells c.args.out.now in
+    let err = g.E.Sink.tells c.args.err.now in
+    let from : Origin = record { treated = treated; before = before; feed = c.args.feed.now; course = c.args.course.now; state = c.args.state.now; out = out; err = err } in
+    let stop = c.in_err-ended-2.field-0.0 in
+    let same : c.from_residual-in_err-ended-2.result ≡ Err stop = search rules in
+    let stands = rw c.in-Far.is at (c.in_ok-ended.ensures.taken from job
+    (standing-begun _ _ treated _ before _ _ _ _ _ job stood c.requires.selected c.requires.context c.requires.earlier c.requires.errors)) in
+    subst
+    (TakesAll (work_of job_is) job_is.most treated (position (fed c.args.feed.now before) (progress c.args.course.now c.args.state.now (printed out err)))
+    (position (fed c.take_until-2.new.feed (g.S.Source.tells c.take_until-2.new.source)) (progress c.take_until-2.new.course c.take_until-2.new.state (printed (g.O.Sink.tells c.take_until-2.new.out) (g.E.Sink.tells c.take_until-2.new.err)))))
+    (sym same) (c.in_err-ended-2.ensures.taken from job stands)
+
+pub returns-clause-taken : goal.returns-clause-taken
+returns-clause-taken g c = λ before treated job stood.
+    let out = g.O.Sink.tells c.args.out.now in
+    let err = g.E.Sink.tells c.args.err.now in
+    let from : Origin = record { treated = treated; before = before; feed = c.args.feed.now; course = c.args.course.now; state = c.args.state.now; out = out; err = err } in
+    let stands = rw c.in-Far.is at (c.in_ok-ended.ensures.taken from job
+    (standing-begun _ _ treated _ before _ _ _ _ _ job stood c.requires.selected c.requires.context c.requires.earlier c.requires.errors)) in
+    rw c.in-Done-2.is at (c.in_ok-ended-2.ensures.taken from job stands)

@@ -1,0 +1,73 @@
+//! Expressions that are found in each line that a pattern matches.
+ghost use Rattle.std.specs.Prelude.{◌≡◌, ◌++◌, ◌∷◌, [], IfOk, IfSome, OnOk};
+ghost use Rattle.pat_tree.specs.declared.options.PartialMode.TheVariants.{Off};
+ghost use Rattle.grep_match.specs.Compiled.{patterns_in};
+ghost use Rattle.grep_match.specs.Wider.{NoneMatches, AreWider};
+
+use crate::patterns::Patterns;
+use crate::search::limits;
+use grep_args::GrepPlan;
+use pat_tree::Memory;
+use pcre2_api::{Code, MatchOptions};
+use regex_hir::Hir;
+use std::alloc::Global;
+
+// Longer lines than the first of these that serves are searched: some patterns pass no limit on short lines alone.
+const LENGTHS: [u32; 3] = [65_535, 2_047, 127];
+
+/// An expression of which a match begins in each line that has a match of a pattern. It may be found in other lines too.
+#[derive(Drop)]
+pub struct Wider {
+    pub hir: Hir,
+    /// So many bytes a line may have on which no search is made.
+    pub most: u32,
+    /// Whether it must be UTF-8 too: a search of another line gives an error.
+    pub utf: bool,
+}
+
+// Adds a branch to the others.
+fn push(branches: &mut Vec<Hir>, hir: Hir) -> Result<(), Memory>
+    ensures { OnOk result (branches.new.items ≡ branches.old.items ++ hir ∷ []) }
+{
+    branches.push(hir)?;
+    Ok(())
+}
+
+// The expression for lines of at most so many bytes.
+fn wider_within(
+    alloc: Global,
+    codes: &[Code],
+    matching: &MatchOptions,
+    most: u32,
+) -> Result<Option<Wider>, Memory>
+    requires { matching.now.«partial» ≡ Off }
+    ensures { IfOk result (λ o. IfSome o (NoneMatches matching.now (patterns_in codes.now))) }
+{
+    let mut branches = Vec::new(alloc);
+    let mut utf = false;
+    for code in codes {
+        let Some(hir) = code.shape(alloc, most, matching)? else {
+            return Ok(None);
+        };
+        push(&mut branches, hir)?;
+        utf |= code.options().utf;
+    }
+    let hir = Hir::Alternation(branches);
+    Ok(Some(Wider { hir, most, utf }))
+}
+
+/// An expression that is found in each line that has a match, under the limits of the plan: a line before the one in which
+/// it is first found isn't searched. None where no such expression is known, or for want of memory.
+pub fn wider_of(alloc: Global, plan: &GrepPlan, patterns: &Patterns) -> Option<Wider>
+    ensures { IfSome result (AreWider plan.now (patterns_in patterns.now)) }
+{
+    let matching = limits(plan);
+    for most in LENGTHS {
+        match wider_within(alloc, patterns.codes(), &matching, most) {
+            Ok(Some(wider)) => return Some(wider),
+            Ok(None) => {}
+            Err(_) => return None,
+        }
+    }
+    None
+}
