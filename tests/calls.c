@@ -343,6 +343,95 @@ static void copies(void) {
   pcre2_code_free(e);
 }
 
+static long blocks, took;
+
+static void *get(size_t n, void *data) {
+  ++*(long *)data;
+  took++;
+  return malloc(n);
+}
+
+static void give(void *block, void *data) {
+  if (block) --*(long *)data;
+  free(block);
+}
+
+/* Blocks of the caller's own functions, all of which are given back. */
+static void memory(void) {
+  pcre2_general_context *g = pcre2_general_context_create(get, give, &blocks), *h = pcre2_general_context_copy(g);
+  pcre2_compile_context *cc = pcre2_compile_context_create(h);
+  pcre2_match_context *mc = pcre2_match_context_create(g), *copy = pcre2_match_context_copy(mc);
+  pcre2_convert_context *cv = pcre2_convert_context_create(g);
+  pcre2_code *c = code("(a)(?<n>b)", 0, cc);
+  pcre2_match_data *m = pcre2_match_data_create_from_pattern(c, NULL), *n = pcre2_match_data_create(2, g);
+  const uint8_t *tables = pcre2_maketables(g);
+  PCRE2_UCHAR *text;
+  PCRE2_UCHAR **list;
+  size_t len;
+  find(c, "ab", 0, 0, m);
+  find(c, "ab", 0, PCRE2_COPY_MATCHED_SUBJECT, n);
+  printf("get %d\n", pcre2_substring_get_byname(m, (PCRE2_SPTR) "n", &text, &len));
+  printf("list %d\n", pcre2_substring_list_get(n, &list, NULL));
+  printf("glob %d %d %d %d\n", pcre2_set_glob_escape(cv, 'a'), pcre2_set_glob_escape(cv, 0),
+         pcre2_set_glob_separator(cv, 'a'), pcre2_set_glob_separator(cv, '.'));
+  pcre2_code_free(c); /* the match data stays */
+  printf("%zu\n", pcre2_get_ovector_pointer(m)[1]);
+  pcre2_substring_free(text);
+  pcre2_substring_list_free((PCRE2_SPTR *)list);
+  pcre2_maketables_free(g, tables);
+  pcre2_match_data_free(m);
+  pcre2_match_data_free(n);
+  pcre2_convert_context_free(cv);
+  pcre2_match_context_free(copy);
+  pcre2_match_context_free(mc);
+  pcre2_compile_context_free(cc);
+  pcre2_general_context_free(g);
+  pcre2_general_context_free(h);
+  printf("some blocks %d, left %ld\n", took > 10, blocks);
+}
+
+/* Match data that goes from code to code, and codes that are freed before it. */
+static void many_codes(void) {
+  pcre2_match_data *m[3];
+  pcre2_code *c[4];
+  for (int i = 0; i < 3; i++) m[i] = pcre2_match_data_create(2, NULL);
+  for (int i = 0; i < 4; i++) {
+    char pattern[2] = {(char)('a' + i), 0};
+    c[i] = code(pattern, 0, NULL);
+  }
+  for (int turn = 0; turn < 24; turn++) {
+    int which = turn * 7 % 4;
+    if (c[which]) find(c[which], "abcd", 0, 0, m[turn % 3]);
+    if (turn > 12 && turn % 3 == 0) {
+      pcre2_code_free(c[turn % 4]);
+      c[turn % 4] = NULL;
+    }
+  }
+  for (int i = 0; i < 4; i++) pcre2_code_free(c[i]);
+  for (int i = 0; i < 3; i++) pcre2_match_data_free(m[i]);
+}
+
+/* A substitution of which the first match was found before. */
+static void matched(void) {
+  pcre2_code *c = code("b", 0, NULL);
+  pcre2_match_data *m = pcre2_match_data_create(2, NULL);
+  for (int i = 0; i < 2; i++) {
+    char out[32] = "";
+    size_t len = sizeof out;
+    const char *s = i ? "xyz" : "abab";
+    find(c, s, 0, 0, m);
+    int rc = pcre2_substitute(c, (PCRE2_SPTR)s, strlen(s), 0, PCRE2_SUBSTITUTE_MATCHED | PCRE2_SUBSTITUTE_GLOBAL, m, NULL,
+                              (PCRE2_SPTR) "<>", 2, (PCRE2_UCHAR *)out, &len);
+    printf("matched before: %d %s\n", rc, out);
+  }
+  size_t len = 0;
+  printf("without match data: %d\n", pcre2_substitute(c, (PCRE2_SPTR) "b", 1, 0, PCRE2_SUBSTITUTE_MATCHED, NULL, NULL,
+                                                      (PCRE2_SPTR) "", 0, NULL, &len));
+  printf("no length: %d\n", pcre2_substitute(c, (PCRE2_SPTR) "b", 1, 0, 0, NULL, NULL, NULL, 3, NULL, &len));
+  pcre2_match_data_free(m);
+  pcre2_code_free(c);
+}
+
 static void messages(void) {
   PCRE2_UCHAR text[200];
   static const int bad[] = {0, 99, -67, 1000};
@@ -366,6 +455,9 @@ int main(void) {
   substituting();
   all_ends();
   copies();
+  memory();
+  many_codes();
+  matched();
   messages();
   return 0;
 }
