@@ -1,4 +1,5 @@
-/* Compiling, and what is told of a code (pcre2api, "Compiling a pattern", "Information about a compiled pattern"). */
+/* Compiling, and what is told of a code (pcre2api, "Compiling a pattern", "Information about a
+ * compiled pattern"). */
 #include "library.h"
 
 #include <ctype.h>
@@ -7,7 +8,8 @@
 
 #define NAME_ROOM 128
 
-/* What a code shares with its match data, as long as one of them is there. A handle is in one call at a time. */
+/* What a code shares with its match data, as long as one of them is there. A handle is in one call
+ * at a time. */
 struct shared {
   struct memory memory;
   pthread_mutex_t lock;
@@ -16,22 +18,25 @@ struct shared {
   size_t users;
 };
 
-#define KNOWN_OPTIONS                                                                                                  \
-  (PCRE2_ANCHORED | PCRE2_ENDANCHORED | PCRE2_NO_UTF_CHECK | PCRE2_ALLOW_EMPTY_CLASS | PCRE2_AUTO_CALLOUT |            \
-   PCRE2_CASELESS | PCRE2_DOLLAR_ENDONLY | PCRE2_DOTALL | PCRE2_DUPNAMES | PCRE2_EXTENDED | PCRE2_FIRSTLINE |          \
-   PCRE2_MATCH_UNSET_BACKREF | PCRE2_MULTILINE | PCRE2_NEVER_UCP | PCRE2_NEVER_UTF | PCRE2_NO_AUTO_CAPTURE |           \
-   PCRE2_NO_AUTO_POSSESS | PCRE2_NO_DOTSTAR_ANCHOR | PCRE2_NO_START_OPTIMIZE | PCRE2_UCP | PCRE2_UNGREEDY |            \
-   PCRE2_UTF | PCRE2_NEVER_BACKSLASH_C | PCRE2_USE_OFFSET_LIMIT | PCRE2_EXTENDED_MORE | PCRE2_LITERAL |                \
+#define KNOWN_OPTIONS                                                                           \
+  (PCRE2_ANCHORED | PCRE2_ENDANCHORED | PCRE2_NO_UTF_CHECK | PCRE2_ALLOW_EMPTY_CLASS |          \
+   PCRE2_AUTO_CALLOUT | PCRE2_CASELESS | PCRE2_DOLLAR_ENDONLY | PCRE2_DOTALL | PCRE2_DUPNAMES | \
+   PCRE2_EXTENDED | PCRE2_FIRSTLINE | PCRE2_MATCH_UNSET_BACKREF | PCRE2_MULTILINE |             \
+   PCRE2_NEVER_UCP | PCRE2_NEVER_UTF | PCRE2_NO_AUTO_CAPTURE | PCRE2_NO_AUTO_POSSESS |          \
+   PCRE2_NO_DOTSTAR_ANCHOR | PCRE2_NO_START_OPTIMIZE | PCRE2_UCP | PCRE2_UNGREEDY | PCRE2_UTF | \
+   PCRE2_NEVER_BACKSLASH_C | PCRE2_USE_OFFSET_LIMIT | PCRE2_EXTENDED_MORE | PCRE2_LITERAL |     \
    PCRE2_MATCH_INVALID_UTF)
 
-#define LITERAL_OPTIONS                                                                                                \
-  (PCRE2_LITERAL | PCRE2_ANCHORED | PCRE2_ENDANCHORED | PCRE2_NO_UTF_CHECK | PCRE2_AUTO_CALLOUT | PCRE2_CASELESS |     \
-   PCRE2_FIRSTLINE | PCRE2_NO_START_OPTIMIZE | PCRE2_UTF | PCRE2_USE_OFFSET_LIMIT | PCRE2_MATCH_INVALID_UTF)
+#define LITERAL_OPTIONS                                                                           \
+  (PCRE2_LITERAL | PCRE2_ANCHORED | PCRE2_ENDANCHORED | PCRE2_NO_UTF_CHECK | PCRE2_AUTO_CALLOUT | \
+   PCRE2_CASELESS | PCRE2_FIRSTLINE | PCRE2_NO_START_OPTIMIZE | PCRE2_UTF |                       \
+   PCRE2_USE_OFFSET_LIMIT | PCRE2_MATCH_INVALID_UTF)
 
 #define WRAPPING (PCRE2_EXTRA_MATCH_WORD | PCRE2_EXTRA_MATCH_LINE)
 
 /* ALLOW_LOOKAROUND_BSK is taken, and a pattern that needs it is refused. */
-#define KNOWN_EXTRA (WRAPPING | PCRE2_EXTRA_BAD_ESCAPE_IS_LITERAL | PCRE2_EXTRA_ALLOW_LOOKAROUND_BSK)
+#define KNOWN_EXTRA \
+  (WRAPPING | PCRE2_EXTRA_BAD_ESCAPE_IS_LITERAL | PCRE2_EXTRA_ALLOW_LOOKAROUND_BSK)
 
 static struct door_asked asked_of(uint32_t o, uint32_t newline, uint32_t bsr) {
   return (struct door_asked){
@@ -73,15 +78,31 @@ static void add(struct text *t, const char *s, size_t n) {
 
 static void add_text(struct text *t, const char *s) { add(t, s, strlen(s)); }
 
-/* The length of the start items of a pattern, as `(*UTF)`, each in capitals (pcre2pattern, "Special start-of-pattern
-   items"). */
+/* The length of the start items of a pattern, as `(*UTF)`, each in capitals (pcre2pattern, "Special
+   start-of-pattern items"). */
 static size_t start_items(const uint8_t *p, size_t len) {
   size_t at = 0;
   while (at + 2 < len && p[at] == '(' && p[at + 1] == '*') {
-    static const char *const items[] = {
-        "UTF)", "UCP)", "NOTEMPTY)", "NOTEMPTY_ATSTART)", "NO_AUTO_POSSESS)", "NO_JIT)", "NO_START_OPT)",
-        "NO_DOTSTAR_ANCHOR)", "CR)", "LF)", "CRLF)", "ANY)", "NUL)", "ANYCRLF)", "BSR_ANYCRLF)", "BSR_UNICODE)",
-        "LIMIT_MATCH=", "LIMIT_DEPTH=", "LIMIT_HEAP=", "LIMIT_RECURSION="};
+    static const char *const items[] = {"UTF)",
+                                        "UCP)",
+                                        "NOTEMPTY)",
+                                        "NOTEMPTY_ATSTART)",
+                                        "NO_AUTO_POSSESS)",
+                                        "NO_JIT)",
+                                        "NO_START_OPT)",
+                                        "NO_DOTSTAR_ANCHOR)",
+                                        "CR)",
+                                        "LF)",
+                                        "CRLF)",
+                                        "ANY)",
+                                        "NUL)",
+                                        "ANYCRLF)",
+                                        "BSR_ANYCRLF)",
+                                        "BSR_UNICODE)",
+                                        "LIMIT_MATCH=",
+                                        "LIMIT_DEPTH=",
+                                        "LIMIT_HEAP=",
+                                        "LIMIT_RECURSION="};
     size_t end = at;
     for (size_t i = 0; end == at && i < sizeof items / sizeof *items; i++) {
       size_t n = strlen(items[i]);
@@ -89,7 +110,8 @@ static size_t start_items(const uint8_t *p, size_t len) {
     }
     if (end == at) break;
     if (p[end - 1] == '=') {
-      while (end < len && isdigit(p[end])) end++;
+      while (end < len && isdigit(p[end]))
+        end++;
       if (end == len || p[end++] != ')') break;
     }
     at = end;
@@ -97,8 +119,8 @@ static size_t start_items(const uint8_t *p, size_t len) {
   return at;
 }
 
-/* The pattern with what MATCH_WORD and MATCH_LINE stand for around it. The newline ends a comment at the pattern's
-   end. */
+/* The pattern with what MATCH_WORD and MATCH_LINE stand for around it. The newline ends a comment
+   at the pattern's end. */
 static void wrap(struct text *t, const struct text *p, uint32_t extra, bool literal, bool newline) {
   size_t before = literal ? 0 : start_items(p->bytes, p->len);
   t->len = 0;
@@ -129,19 +151,21 @@ static int make(struct making *m, const struct text *t, uint32_t options) {
   return made == 0 ? 0 : PCRE2_ERROR_HEAP_FAILED;
 }
 
-/* Where the backslash of an unknown escape stands, of which a fault is told at the escape or right behind it. */
+/* Where the backslash of an unknown escape stands, of which a fault is told at the escape or right
+ * behind it. */
 static size_t backslash(const struct text *t, size_t at) {
   return at < t->len && t->bytes[at] == '\\' ? at : at - 1;
 }
 
-/* Compiles the text. Under BAD_ESCAPE_IS_LITERAL the backslash of an unknown escape is left out, and the text compiled
-   again. */
+/* Compiles the text. Under BAD_ESCAPE_IS_LITERAL the backslash of an unknown escape is left out,
+   and the text compiled again. */
 static int make_plain(struct making *m) {
   size_t left_out = 0;
   for (;;) {
     int code = make(m, &m->text, m->options);
     size_t at = backslash(&m->text, m->fault.at);
-    if (code != PCRE2_ERROR_UNKNOWN_ESCAPE || !(m->extra & PCRE2_EXTRA_BAD_ESCAPE_IS_LITERAL) || at >= m->text.len) {
+    if (code != PCRE2_ERROR_UNKNOWN_ESCAPE || !(m->extra & PCRE2_EXTRA_BAD_ESCAPE_IS_LITERAL) ||
+        at >= m->text.len) {
       if (code) m->fault.at += left_out;
       return code;
     }
@@ -253,7 +277,8 @@ static bool read_names(pcre2_code *c) {
     uint32_t group = door_name(&c->shared->handle, i, entry + 2, longest).group;
     entry[0] = (uint8_t)(group >> 8);
     entry[1] = (uint8_t)group;
-    if (i > 0 && !(c->options & PCRE2_DUPNAMES) && !strcmp((char *)entry + 2, (char *)entry - c->name_size + 2))
+    if (i > 0 && !(c->options & PCRE2_DUPNAMES) &&
+        !strcmp((char *)entry + 2, (char *)entry - c->name_size + 2))
       c->jchanged = true;
   }
   return true;
@@ -267,15 +292,18 @@ static bool holds(const uint8_t *s, size_t len, const char *part) {
   return false;
 }
 
-/* A code of this text over what a handle holds, which it takes; NULL, and the handle is free, for want of memory. */
-static pcre2_code *code_of(const struct memory *m, struct door_handle handle, const uint8_t *text, size_t len,
-                           uint32_t options, const pcre2_compile_context *with) {
+/* A code of this text over what a handle holds, which it takes; NULL, and the handle is free, for
+ * want of memory. */
+static pcre2_code *code_of(const struct memory *m, struct door_handle handle, const uint8_t *text,
+                           size_t len, uint32_t options, const pcre2_compile_context *with) {
   pcre2_code *c = get_block(m, sizeof *c);
   uint8_t *kept = get_block(m, len + 1);
   struct shared *shared = shared_of(m, handle);
   if (!c || !kept || !shared) {
-    if (shared) end_sharing(shared);
-    else door_free(&handle);
+    if (shared)
+      end_sharing(shared);
+    else
+      door_free(&handle);
     give_block(m, c);
     give_block(m, kept);
     return NULL;
@@ -289,14 +317,16 @@ static pcre2_code *code_of(const struct memory *m, struct door_handle handle, co
   c->newline = with->newline;
   c->bsr = with->bsr;
   c->tables = with->tables;
-  c->has_callouts = options & PCRE2_AUTO_CALLOUT || (!(options & PCRE2_LITERAL) && holds(text, len, "(?C"));
+  c->has_callouts =
+      options & PCRE2_AUTO_CALLOUT || (!(options & PCRE2_LITERAL) && holds(text, len, "(?C"));
   if (read_names(c)) return c;
   pcre2_code_free(c);
   return NULL;
 }
 
 /* What refuses a pattern before its text is read: 0, or the number of the fault. */
-static int refusal(PCRE2_SPTR pattern, size_t len, uint32_t options, const pcre2_compile_context *with) {
+static int refusal(PCRE2_SPTR pattern, size_t len, uint32_t options,
+                   const pcre2_compile_context *with) {
   if (!pattern) return PCRE2_ERROR_NULL_PATTERN;
   if (options & ~KNOWN_OPTIONS || with->extra & ~KNOWN_EXTRA) return PCRE2_ERROR_BAD_OPTIONS;
   if (options & PCRE2_LITERAL && options & ~LITERAL_OPTIONS) return PCRE2_ERROR_BAD_LITERAL_OPTIONS;
@@ -330,9 +360,11 @@ pcre2_code *pcre2_compile(PCRE2_SPTR pattern, size_t len, uint32_t options, int 
   if (*error) return NULL;
   if (len == PCRE2_ZERO_TERMINATED) len = strlen((const char *)pattern);
   if (options & PCRE2_MATCH_INVALID_UTF) options |= PCRE2_UTF;
-  struct making m = {
-      .text = {get_block(&plain_memory, len + 1), len},
-      .options = options, .extra = with->extra, .newline = with->newline, .bsr = with->bsr};
+  struct making m = {.text = {get_block(&plain_memory, len + 1), len},
+                     .options = options,
+                     .extra = with->extra,
+                     .newline = with->newline,
+                     .bsr = with->bsr};
   if (!m.text.bytes) {
     *error = PCRE2_ERROR_HEAP_FAILED;
     return NULL;
@@ -383,14 +415,16 @@ static bool has_cr_or_lf(const pcre2_code *c) {
   for (size_t i = 0; i < c->text_len; i++) {
     uint8_t b = c->text[i];
     if (b == '\r' || b == '\n') return true;
-    if (b == '\\' && i + 1 < c->text_len && (c->text[i + 1] == 'r' || c->text[i + 1] == 'n')) return true;
+    if (b == '\\' && i + 1 < c->text_len && (c->text[i + 1] == 'r' || c->text[i + 1] == 'n'))
+      return true;
   }
   return false;
 }
 
 static uint32_t all_options(const pcre2_code *c) {
   return c->options | (c->told.utf ? PCRE2_UTF : 0) | (c->told.ucp ? PCRE2_UCP : 0) |
-         (c->told.no_start_optimize ? PCRE2_NO_START_OPTIMIZE : 0) | (c->told.anchored ? PCRE2_ANCHORED : 0);
+         (c->told.no_start_optimize ? PCRE2_NO_START_OPTIMIZE : 0) |
+         (c->told.anchored ? PCRE2_ANCHORED : 0);
 }
 
 static int tell_size(size_t n, void *where) {
@@ -416,8 +450,10 @@ static int tell_place(const uint8_t *place, void *where) {
 int pcre2_pattern_info(const pcre2_code *c, uint32_t what, void *where) {
   static const pcre2_code none; /* the size of an answer is told without a code */
   if (!c && where) return PCRE2_ERROR_NULL;
-  if (!c) c = &none;
-  else if (c->magic != MAGIC) return PCRE2_ERROR_BADMAGIC;
+  if (!c)
+    c = &none;
+  else if (c->magic != MAGIC)
+    return PCRE2_ERROR_BADMAGIC;
   switch (what) {
   case PCRE2_INFO_NAMETABLE: return tell_place(c->names, where);
   case PCRE2_INFO_FIRSTBITMAP: return tell_place(NULL, where);
@@ -451,7 +487,8 @@ int pcre2_pattern_info(const pcre2_code *c, uint32_t what, void *where) {
 }
 
 /* The door doesn't tell the callouts of a pattern. */
-int pcre2_callout_enumerate(const pcre2_code *c, int (*f)(pcre2_callout_enumerate_block *, void *), void *data) {
+int pcre2_callout_enumerate(const pcre2_code *c, int (*f)(pcre2_callout_enumerate_block *, void *),
+                            void *data) {
   (void)f, (void)data;
   if (!c) return PCRE2_ERROR_NULL;
   if (c->magic != MAGIC) return PCRE2_ERROR_BADMAGIC;

@@ -1,4 +1,5 @@
-/* Memory, contexts and what the library is built with (pcre2api, "PCRE2 contexts", "Checking build-time options"). */
+/* Memory, contexts and what the library is built with (pcre2api, "PCRE2 contexts", "Checking
+ * build-time options"). */
 #include "library.h"
 
 #include <ctype.h>
@@ -60,9 +61,17 @@ int pcre2_config(uint32_t what, void *where) {
   case PCRE2_CONFIG_NEVER_BACKSLASH_C: n = 1; break;
   case PCRE2_CONFIG_COMPILED_WIDTHS: n = 1; break;
   case PCRE2_CONFIG_TABLES_LENGTH: n = TABLES; break;
-  case PCRE2_CONFIG_UNICODE_VERSION: n = 0; text = "18.0.0"; break;
-  case PCRE2_CONFIG_VERSION: n = 0; text = "10.42 2022-12-11"; break;
-  default: return PCRE2_ERROR_BADOPTION; /* PCRE2_CONFIG_JITTARGET too, as where there is no such compiler */
+  case PCRE2_CONFIG_UNICODE_VERSION:
+    n = 0;
+    text = "18.0.0";
+    break;
+  case PCRE2_CONFIG_VERSION:
+    n = 0;
+    text = "10.42 2022-12-11";
+    break;
+  default:
+    return PCRE2_ERROR_BADOPTION; /* PCRE2_CONFIG_JITTARGET too, as where there is no such compiler
+                                   */
   }
   if (text) {
     if (where) memcpy(where, text, strlen(text) + 1);
@@ -75,8 +84,8 @@ int pcre2_config(uint32_t what, void *where) {
 
 /* ---- contexts ---- */
 
-pcre2_general_context *pcre2_general_context_create(void *(*get)(size_t, void *), void (*give)(void *, void *),
-                                                    void *data) {
+pcre2_general_context *pcre2_general_context_create(void *(*get)(size_t, void *),
+                                                    void (*give)(void *, void *), void *data) {
   struct memory m = {get ? get : plain_get, give ? give : plain_give, data};
   pcre2_general_context *c = get_block(&m, sizeof *c);
   if (c) c->memory = m;
@@ -84,20 +93,22 @@ pcre2_general_context *pcre2_general_context_create(void *(*get)(size_t, void *)
 }
 
 /* A context of the values of another, in memory of its own. */
-#define COPY(kind, from, of)                                                                                           \
-  kind *c = get_block(of, sizeof *c);                                                                                  \
-  if (!c) return NULL;                                                                                                 \
-  *c = *(from);                                                                                                        \
-  c->memory = *(of);                                                                                                   \
+#define COPY(kind, from, of)          \
+  kind *c = get_block(of, sizeof *c); \
+  if (!c) return NULL;                \
+  *c = *(from);                       \
+  c->memory = *(of);                  \
   return c
 
 /* Gives back a block that knows its memory. */
-#define GIVE(c)                                                                                                        \
-  if (!(c)) return;                                                                                                    \
-  struct memory m = (c)->memory;                                                                                       \
+#define GIVE(c)                  \
+  if (!(c)) return;              \
+  struct memory m = (c)->memory; \
   give_block(&m, (c))
 
-static const struct memory *memory_of(const pcre2_general_context *g) { return g ? &g->memory : &plain_memory; }
+static const struct memory *memory_of(const pcre2_general_context *g) {
+  return g ? &g->memory : &plain_memory;
+}
 
 pcre2_general_context *pcre2_general_context_copy(pcre2_general_context *g) {
   COPY(pcre2_general_context, g, &g->memory);
@@ -147,8 +158,10 @@ int pcre2_set_parens_nest_limit(pcre2_compile_context *c, uint32_t n) {
   return 0;
 }
 
-int pcre2_set_compile_recursion_guard(pcre2_compile_context *c, int (*f)(uint32_t, void *), void *data) {
-  (void)c, (void)f, (void)data; /* no call of the compiler goes deeper for a pattern that is nested deeper */
+int pcre2_set_compile_recursion_guard(pcre2_compile_context *c, int (*f)(uint32_t, void *),
+                                      void *data) {
+  (void)c, (void)f,
+      (void)data; /* no call of the compiler goes deeper for a pattern that is nested deeper */
   return 0;
 }
 
@@ -169,8 +182,8 @@ int pcre2_set_callout(pcre2_match_context *c, int (*f)(pcre2_callout_block *, vo
   return 0;
 }
 
-int pcre2_set_substitute_callout(pcre2_match_context *c, int (*f)(pcre2_substitute_callout_block *, void *),
-                                 void *data) {
+int pcre2_set_substitute_callout(pcre2_match_context *c,
+                                 int (*f)(pcre2_substitute_callout_block *, void *), void *data) {
   (void)data;
   c->substitute_callout = f;
   return 0;
@@ -186,7 +199,9 @@ int pcre2_set_depth_limit(pcre2_match_context *c, uint32_t n) {
   return 0;
 }
 
-int pcre2_set_recursion_limit(pcre2_match_context *c, uint32_t n) { return pcre2_set_depth_limit(c, n); }
+int pcre2_set_recursion_limit(pcre2_match_context *c, uint32_t n) {
+  return pcre2_set_depth_limit(c, n);
+}
 
 int pcre2_set_heap_limit(pcre2_match_context *c, uint32_t n) {
   c->heap_limit = n;
@@ -227,8 +242,8 @@ int pcre2_set_glob_separator(pcre2_convert_context *c, uint32_t n) {
   return 0;
 }
 
-int pcre2_pattern_convert(PCRE2_SPTR pattern, size_t len, uint32_t options, PCRE2_UCHAR **out, size_t *out_len,
-                          pcre2_convert_context *c) {
+int pcre2_pattern_convert(PCRE2_SPTR pattern, size_t len, uint32_t options, PCRE2_UCHAR **out,
+                          size_t *out_len, pcre2_convert_context *c) {
   (void)len, (void)options, (void)c;
   if (!pattern || !out_len) return PCRE2_ERROR_NULL;
   *out_len = 0;
@@ -244,14 +259,14 @@ void pcre2_converted_pattern_free(PCRE2_UCHAR *text) { give_text(text); }
 int pcre2_jit_compile(pcre2_code *c, uint32_t options) {
   if (!c) return PCRE2_ERROR_NULL;
   if (c->magic != MAGIC) return PCRE2_ERROR_BADMAGIC;
-  if (options &
-      ~(PCRE2_JIT_COMPLETE | PCRE2_JIT_PARTIAL_SOFT | PCRE2_JIT_PARTIAL_HARD | PCRE2_JIT_INVALID_UTF))
+  if (options & ~(PCRE2_JIT_COMPLETE | PCRE2_JIT_PARTIAL_SOFT | PCRE2_JIT_PARTIAL_HARD |
+                  PCRE2_JIT_INVALID_UTF))
     return PCRE2_ERROR_JIT_BADOPTION;
   return 0;
 }
 
-int pcre2_jit_match(const pcre2_code *c, PCRE2_SPTR subject, size_t len, size_t start, uint32_t options,
-                    pcre2_match_data *m, pcre2_match_context *mc) {
+int pcre2_jit_match(const pcre2_code *c, PCRE2_SPTR subject, size_t len, size_t start,
+                    uint32_t options, pcre2_match_data *m, pcre2_match_context *mc) {
   return pcre2_match(c, subject, len, start, options, m, mc);
 }
 

@@ -21,7 +21,9 @@ struct memory {
   void *data;
 };
 
-struct pcre2_general_context_of_8 { struct memory memory; };
+struct pcre2_general_context_of_8 {
+  struct memory memory;
+};
 
 struct pcre2_compile_context_of_8 {
   struct memory memory;
@@ -43,7 +45,9 @@ struct pcre2_convert_context_of_8 {
   uint32_t escape, separator;
 };
 
-struct pcre2_jit_stack_of_8 { struct memory memory; };
+struct pcre2_jit_stack_of_8 {
+  struct memory memory;
+};
 
 struct shared; /* what a code shares with its match data */
 
@@ -91,25 +95,28 @@ void give_block(const struct memory *, void *);
 void *get_text(const struct memory *, size_t);
 void give_text(void *);
 
-/* What is wrong with the character at s, of which n bytes are left; 0 and its length where nothing is. */
+/* What is wrong with the character at s, of which n bytes are left; 0 and its length where nothing
+ * is. */
 int character_fault(const uint8_t *s, size_t n, size_t *len);
 /* How far the text is UTF-8, from a place on. */
 size_t valid_to(const uint8_t *s, size_t from, size_t len);
 
-/* A handle of the code for match data, of which a workspace is used by nobody else; false for want of memory. */
+/* A handle of the code for match data, of which a workspace is used by nobody else; false for want
+ * of memory. */
 bool lend_handle(struct shared *, struct door_handle *);
 /* Takes it back. */
 void take_back(struct shared *, struct door_handle *);
 
 /* Match data of this code, ready for a search: 0, or why there is none. */
-int begin_match(pcre2_match_data *, const pcre2_code *, PCRE2_SPTR *subject, size_t *len, size_t start,
-                uint32_t options, const pcre2_match_context *);
+int begin_match(pcre2_match_data *, const pcre2_code *, PCRE2_SPTR *subject, size_t *len,
+                size_t start, uint32_t options, const pcre2_match_context *);
 struct door_match_asked match_asked(uint32_t options, const pcre2_match_context *, bool *by_depth);
 int limit_code(int32_t code, bool by_depth);
 bool take_handle(pcre2_match_data *, const pcre2_code *);
 
-#define MATCH_OPTIONS                                                                                                  \
-  (PCRE2_ANCHORED | PCRE2_ENDANCHORED | PCRE2_NOTBOL | PCRE2_NOTEOL | PCRE2_NOTEMPTY | PCRE2_NOTEMPTY_ATSTART |        \
-   PCRE2_NO_UTF_CHECK | PCRE2_PARTIAL_HARD | PCRE2_PARTIAL_SOFT | PCRE2_NO_JIT | PCRE2_COPY_MATCHED_SUBJECT)
+#define MATCH_OPTIONS                                                                      \
+  (PCRE2_ANCHORED | PCRE2_ENDANCHORED | PCRE2_NOTBOL | PCRE2_NOTEOL | PCRE2_NOTEMPTY |     \
+   PCRE2_NOTEMPTY_ATSTART | PCRE2_NO_UTF_CHECK | PCRE2_PARTIAL_HARD | PCRE2_PARTIAL_SOFT | \
+   PCRE2_NO_JIT | PCRE2_COPY_MATCHED_SUBJECT)
 
 #endif

@@ -3,7 +3,8 @@
 
 #include <string.h>
 
-_Static_assert(sizeof(size_t) == sizeof(uint64_t), "a pair of places of the door is one of the vector");
+_Static_assert(sizeof(size_t) == sizeof(uint64_t),
+               "a pair of places of the door is one of the vector");
 _Static_assert(PCRE2_UNSET == UINT64_MAX, "an unset group is told as the door tells it");
 
 /* ---- match data ---- */
@@ -25,7 +26,8 @@ pcre2_match_data *pcre2_match_data_create(uint32_t count, pcre2_general_context 
   return data_of(count, g ? &g->memory : &plain_memory);
 }
 
-pcre2_match_data *pcre2_match_data_create_from_pattern(const pcre2_code *c, pcre2_general_context *g) {
+pcre2_match_data *pcre2_match_data_create_from_pattern(const pcre2_code *c,
+                                                       pcre2_general_context *g) {
   return c ? data_of(c->told.groups + 1, g ? &g->memory : &c->memory) : NULL;
 }
 
@@ -41,9 +43,12 @@ PCRE2_SPTR pcre2_get_mark(pcre2_match_data *m) { return m->has_mark ? m->mark : 
 size_t *pcre2_get_ovector_pointer(pcre2_match_data *m) { return m->ovector; }
 uint32_t pcre2_get_ovector_count(pcre2_match_data *m) { return m->count; }
 size_t pcre2_get_startchar(pcre2_match_data *m) { return m->startchar; }
-size_t pcre2_get_match_data_size(pcre2_match_data *m) { return sizeof *m + 2 * m->count * sizeof(size_t); }
+size_t pcre2_get_match_data_size(pcre2_match_data *m) {
+  return sizeof *m + 2 * m->count * sizeof(size_t);
+}
 
-/* Match data has a handle of its own of the code, so that threads that share the code don't wait for each other. */
+/* Match data has a handle of its own of the code, so that threads that share the code don't wait
+ * for each other. */
 bool take_handle(pcre2_match_data *m, const pcre2_code *c) {
   if (m->shared == c->shared) return true;
   if (m->shared) take_back(m->shared, &m->own);
@@ -53,10 +58,11 @@ bool take_handle(pcre2_match_data *m, const pcre2_code *c) {
 
 /* ---- searches ---- */
 
-int begin_match(pcre2_match_data *m, const pcre2_code *c, PCRE2_SPTR *subject, size_t *len, size_t start,
-                uint32_t options, const pcre2_match_context *with) {
+int begin_match(pcre2_match_data *m, const pcre2_code *c, PCRE2_SPTR *subject, size_t *len,
+                size_t start, uint32_t options, const pcre2_match_context *with) {
   if (c->magic != MAGIC) return PCRE2_ERROR_BADMAGIC;
-  if (options & (PCRE2_PARTIAL_HARD | PCRE2_PARTIAL_SOFT) && (options | c->options) & PCRE2_ENDANCHORED)
+  if (options & (PCRE2_PARTIAL_HARD | PCRE2_PARTIAL_SOFT) &&
+      (options | c->options) & PCRE2_ENDANCHORED)
     return PCRE2_ERROR_BADOPTION;
   if (!*subject) {
     if (*len != 0) return PCRE2_ERROR_NULL;
@@ -70,7 +76,8 @@ int begin_match(pcre2_match_data *m, const pcre2_code *c, PCRE2_SPTR *subject, s
   m->startchar = start;
   m->has_mark = false;
   if (start > *len) return PCRE2_ERROR_BADOFFSET;
-  if (with->offset_limit != PCRE2_UNSET && !(c->options & PCRE2_USE_OFFSET_LIMIT)) return PCRE2_ERROR_BADOFFSETLIMIT;
+  if (with->offset_limit != PCRE2_UNSET && !(c->options & PCRE2_USE_OFFSET_LIMIT))
+    return PCRE2_ERROR_BADOFFSETLIMIT;
   if (with->callout && c->has_callouts) return PCRE2_ERROR_CALLOUT; /* callouts aren't served */
   return *len > MOST_SUBJECT || !take_handle(m, c) ? PCRE2_ERROR_NOMEMORY : 0;
 }
@@ -87,7 +94,9 @@ struct door_match_asked match_asked(uint32_t o, const pcre2_match_context *with,
       .notempty = o & PCRE2_NOTEMPTY,
       .notempty_atstart = o & PCRE2_NOTEMPTY_ATSTART,
       .dfa_shortest = o & PCRE2_DFA_SHORTEST,
-      .partial = o & PCRE2_PARTIAL_HARD ? 2 : o & PCRE2_PARTIAL_SOFT ? 1 : 0,
+      .partial = o & PCRE2_PARTIAL_HARD   ? 2
+                 : o & PCRE2_PARTIAL_SOFT ? 1
+                                          : 0,
       .match_limit = with->match_limit,
       .frame_limit = units > UINT32_MAX ? UINT32_MAX : (uint32_t)units,
   };
@@ -118,7 +127,8 @@ static int search_part(struct search *s, size_t from, size_t to, size_t start) {
   const uint8_t *text = m->subject + from;
   size_t len = to - from, n = m->groups < m->count ? m->groups + 1 : m->count, unused;
   struct door_answer a = (s->checked || !s->code->told.utf ? door_match_checked : door_match)(
-      &m->own, text, len, start - from, &s->asked, (struct door_pair *)m->ovector, n, m->mark, MARK_ROOM - 1);
+      &m->own, text, len, start - from, &s->asked, (struct door_pair *)m->ovector, n, m->mark,
+      MARK_ROOM - 1);
   keep_mark(m, &a);
   if (a.code == PCRE2_ERROR_UTF8_ERR1) {
     m->startchar = from + a.at;
@@ -136,8 +146,8 @@ static int search_part(struct search *s, size_t from, size_t to, size_t start) {
   return a.top < m->count ? (int)a.top + 1 : 0;
 }
 
-/* A subject of PCRE2_MATCH_INVALID_UTF is searched run by run of UTF-8 (pcre2unicode, "Matching in invalid UTF
-   strings"). */
+/* A subject of PCRE2_MATCH_INVALID_UTF is searched run by run of UTF-8 (pcre2unicode, "Matching in
+   invalid UTF strings"). */
 static int search_runs(struct search *s, size_t start) {
   const uint8_t *text = s->data->subject;
   size_t len = s->data->subject_len, from = 0, to = valid_to(text, 0, len);
@@ -181,8 +191,10 @@ int pcre2_match(const pcre2_code *c, PCRE2_SPTR subject, size_t len, size_t star
   if (m->rc != 0) return m->rc;
   struct search s = {.code = c, .data = m, .checked = options & PCRE2_NO_UTF_CHECK};
   s.asked = match_asked(options, with, &s.by_depth);
-  int rc = c->options & PCRE2_MATCH_INVALID_UTF ? search_runs(&s, start) : search_part(&s, 0, len, start);
-  if ((rc >= 0 || rc == PCRE2_ERROR_PARTIAL) && m->startchar > with->offset_limit) rc = PCRE2_ERROR_NOMATCH;
+  int rc = c->options & PCRE2_MATCH_INVALID_UTF ? search_runs(&s, start)
+                                                : search_part(&s, 0, len, start);
+  if ((rc >= 0 || rc == PCRE2_ERROR_PARTIAL) && m->startchar > with->offset_limit)
+    rc = PCRE2_ERROR_NOMATCH;
   m->rc = finish(m, rc, options);
   return m->rc;
 }
@@ -196,16 +208,20 @@ static int pair_ends(pcre2_match_data *m, size_t start, size_t count) {
     m->ovector[2 * i + 1] = m->ovector[m->count + i];
     m->ovector[2 * i] = start;
   }
-  for (size_t i = 2 * n; i < 2u * m->count; i++) m->ovector[i] = PCRE2_UNSET;
+  for (size_t i = 2 * n; i < 2u * m->count; i++)
+    m->ovector[i] = PCRE2_UNSET;
   return count <= m->count ? (int)count : 0;
 }
 
-static int search_ends(pcre2_match_data *m, size_t start, const struct door_match_asked *asked, bool by_depth) {
+static int search_ends(pcre2_match_data *m, size_t start, const struct door_match_asked *asked,
+                       bool by_depth) {
   size_t len = m->subject_len, unused;
   struct door_ends_answer a = door_ends(&m->own, m->subject, len, start, asked,
                                         (uint64_t *)m->ovector + m->count, m->count);
-  if (a.code == 0 || a.code == PCRE2_ERROR_PARTIAL || a.code == PCRE2_ERROR_UTF8_ERR1) m->startchar = a.at;
-  if (a.code == PCRE2_ERROR_UTF8_ERR1) return character_fault(m->subject + a.at, len - a.at, &unused);
+  if (a.code == 0 || a.code == PCRE2_ERROR_PARTIAL || a.code == PCRE2_ERROR_UTF8_ERR1)
+    m->startchar = a.at;
+  if (a.code == PCRE2_ERROR_UTF8_ERR1)
+    return character_fault(m->subject + a.at, len - a.at, &unused);
   if (a.code == PCRE2_ERROR_PARTIAL) {
     m->ovector[0] = a.at;
     m->ovector[1] = len;
@@ -213,11 +229,13 @@ static int search_ends(pcre2_match_data *m, size_t start, const struct door_matc
   return a.code == 0 ? pair_ends(m, a.at, a.count) : limit_code(a.code, by_depth);
 }
 
-int pcre2_dfa_match(const pcre2_code *c, PCRE2_SPTR subject, size_t len, size_t start, uint32_t options,
-                    pcre2_match_data *m, pcre2_match_context *mc, int *room, size_t n) {
+int pcre2_dfa_match(const pcre2_code *c, PCRE2_SPTR subject, size_t len, size_t start,
+                    uint32_t options, pcre2_match_data *m, pcre2_match_context *mc, int *room,
+                    size_t n) {
   const pcre2_match_context *with = mc ? mc : &plain_match;
   if (!c || !m || !room) return PCRE2_ERROR_NULL;
-  if (options & ~(MATCH_OPTIONS | PCRE2_DFA_SHORTEST | PCRE2_DFA_RESTART)) return PCRE2_ERROR_BADOPTION;
+  if (options & ~(MATCH_OPTIONS | PCRE2_DFA_SHORTEST | PCRE2_DFA_RESTART))
+    return PCRE2_ERROR_BADOPTION;
   if (n < 20) return PCRE2_ERROR_DFA_WSSIZE;
   if (options & PCRE2_DFA_RESTART) return PCRE2_ERROR_DFA_BADRESTART; /* a search isn't continued */
   m->by_dfa = true;
@@ -227,7 +245,8 @@ int pcre2_dfa_match(const pcre2_code *c, PCRE2_SPTR subject, size_t len, size_t 
   bool by_depth;
   struct door_match_asked asked = match_asked(options, with, &by_depth);
   int rc = search_ends(m, start, &asked, by_depth);
-  if ((rc >= 0 || rc == PCRE2_ERROR_PARTIAL) && m->startchar > with->offset_limit) rc = PCRE2_ERROR_NOMATCH;
+  if ((rc >= 0 || rc == PCRE2_ERROR_PARTIAL) && m->startchar > with->offset_limit)
+    rc = PCRE2_ERROR_NOMATCH;
   m->rc = finish(m, rc, options);
   return m->rc;
 }

@@ -1,6 +1,7 @@
-/* The public interface of the library for C, as pcre2api(3) and pcre2callout(3) describe it: the calls with their
-   names, the numbers of options, questions and errors, and the layout of what callouts are shown. 8-bit code units
-   alone are built. c/README.md says which calls and options are served. */
+/* The public interface of the library for C, as pcre2api(3) and pcre2callout(3) describe it: the
+   calls with their names, the numbers of options, questions and errors, and the layout of what
+   callouts are shown. 8-bit code units alone are built. c/README.md says which calls and options
+   are served. */
 #ifndef PCRE2_H_INCLUDED
 #define PCRE2_H_INCLUDED
 
@@ -22,7 +23,7 @@ extern "C" {
 #define PCRE2_MAJOR 10
 #define PCRE2_MINOR 42
 #define PCRE2_PRERELEASE
-#define PCRE2_DATE 2022-12-11
+#define PCRE2_DATE 2022 - 12 - 11
 
 #define PCRE2_CALL_CONVENTION
 
@@ -412,7 +413,8 @@ typedef struct pcre2_substitute_callout_block_8 {
 
 int pcre2_config_8(uint32_t, void *);
 
-pcre2_general_context_8 *pcre2_general_context_create_8(void *(*)(size_t, void *), void (*)(void *, void *), void *);
+pcre2_general_context_8 *pcre2_general_context_create_8(void *(*)(size_t, void *),
+                                                        void (*)(void *, void *), void *);
 pcre2_general_context_8 *pcre2_general_context_copy_8(pcre2_general_context_8 *);
 void pcre2_general_context_free_8(pcre2_general_context_8 *);
 
@@ -425,14 +427,15 @@ int pcre2_set_character_tables_8(pcre2_compile_context_8 *, const uint8_t *);
 int pcre2_set_compile_extra_options_8(pcre2_compile_context_8 *, uint32_t);
 int pcre2_set_max_pattern_length_8(pcre2_compile_context_8 *, size_t);
 int pcre2_set_parens_nest_limit_8(pcre2_compile_context_8 *, uint32_t);
-int pcre2_set_compile_recursion_guard_8(pcre2_compile_context_8 *, int (*)(uint32_t, void *), void *);
+int pcre2_set_compile_recursion_guard_8(pcre2_compile_context_8 *, int (*)(uint32_t, void *),
+                                        void *);
 
 pcre2_match_context_8 *pcre2_match_context_create_8(pcre2_general_context_8 *);
 pcre2_match_context_8 *pcre2_match_context_copy_8(pcre2_match_context_8 *);
 void pcre2_match_context_free_8(pcre2_match_context_8 *);
 int pcre2_set_callout_8(pcre2_match_context_8 *, int (*)(pcre2_callout_block_8 *, void *), void *);
-int pcre2_set_substitute_callout_8(pcre2_match_context_8 *, int (*)(pcre2_substitute_callout_block_8 *, void *),
-                                   void *);
+int pcre2_set_substitute_callout_8(pcre2_match_context_8 *,
+                                   int (*)(pcre2_substitute_callout_block_8 *, void *), void *);
 int pcre2_set_match_limit_8(pcre2_match_context_8 *, uint32_t);
 int pcre2_set_depth_limit_8(pcre2_match_context_8 *, uint32_t);
 int pcre2_set_recursion_limit_8(pcre2_match_context_8 *, uint32_t);
@@ -446,23 +449,27 @@ pcre2_convert_context_8 *pcre2_convert_context_copy_8(pcre2_convert_context_8 *)
 void pcre2_convert_context_free_8(pcre2_convert_context_8 *);
 int pcre2_set_glob_escape_8(pcre2_convert_context_8 *, uint32_t);
 int pcre2_set_glob_separator_8(pcre2_convert_context_8 *, uint32_t);
-int pcre2_pattern_convert_8(PCRE2_SPTR8, size_t, uint32_t, PCRE2_UCHAR8 **, size_t *, pcre2_convert_context_8 *);
+int pcre2_pattern_convert_8(PCRE2_SPTR8, size_t, uint32_t, PCRE2_UCHAR8 **, size_t *,
+                            pcre2_convert_context_8 *);
 void pcre2_converted_pattern_free_8(PCRE2_UCHAR8 *);
 
-pcre2_code_8 *pcre2_compile_8(PCRE2_SPTR8, size_t, uint32_t, int *, size_t *, pcre2_compile_context_8 *);
+pcre2_code_8 *pcre2_compile_8(PCRE2_SPTR8, size_t, uint32_t, int *, size_t *,
+                              pcre2_compile_context_8 *);
 pcre2_code_8 *pcre2_code_copy_8(const pcre2_code_8 *);
 pcre2_code_8 *pcre2_code_copy_with_tables_8(const pcre2_code_8 *);
 void pcre2_code_free_8(pcre2_code_8 *);
 int pcre2_pattern_info_8(const pcre2_code_8 *, uint32_t, void *);
-int pcre2_callout_enumerate_8(const pcre2_code_8 *, int (*)(pcre2_callout_enumerate_block_8 *, void *), void *);
+int pcre2_callout_enumerate_8(const pcre2_code_8 *,
+                              int (*)(pcre2_callout_enumerate_block_8 *, void *), void *);
 
 pcre2_match_data_8 *pcre2_match_data_create_8(uint32_t, pcre2_general_context_8 *);
-pcre2_match_data_8 *pcre2_match_data_create_from_pattern_8(const pcre2_code_8 *, pcre2_general_context_8 *);
+pcre2_match_data_8 *pcre2_match_data_create_from_pattern_8(const pcre2_code_8 *,
+                                                           pcre2_general_context_8 *);
 void pcre2_match_data_free_8(pcre2_match_data_8 *);
 int pcre2_match_8(const pcre2_code_8 *, PCRE2_SPTR8, size_t, size_t, uint32_t, pcre2_match_data_8 *,
                   pcre2_match_context_8 *);
-int pcre2_dfa_match_8(const pcre2_code_8 *, PCRE2_SPTR8, size_t, size_t, uint32_t, pcre2_match_data_8 *,
-                      pcre2_match_context_8 *, int *, size_t);
+int pcre2_dfa_match_8(const pcre2_code_8 *, PCRE2_SPTR8, size_t, size_t, uint32_t,
+                      pcre2_match_data_8 *, pcre2_match_context_8 *, int *, size_t);
 PCRE2_SPTR8 pcre2_get_mark_8(pcre2_match_data_8 *);
 size_t pcre2_get_match_data_size_8(pcre2_match_data_8 *);
 uint32_t pcre2_get_ovector_count_8(pcre2_match_data_8 *);
@@ -476,22 +483,26 @@ int pcre2_substring_get_byname_8(pcre2_match_data_8 *, PCRE2_SPTR8, PCRE2_UCHAR8
 int pcre2_substring_get_bynumber_8(pcre2_match_data_8 *, uint32_t, PCRE2_UCHAR8 **, size_t *);
 int pcre2_substring_length_byname_8(pcre2_match_data_8 *, PCRE2_SPTR8, size_t *);
 int pcre2_substring_length_bynumber_8(pcre2_match_data_8 *, uint32_t, size_t *);
-int pcre2_substring_nametable_scan_8(const pcre2_code_8 *, PCRE2_SPTR8, PCRE2_SPTR8 *, PCRE2_SPTR8 *);
+int pcre2_substring_nametable_scan_8(const pcre2_code_8 *, PCRE2_SPTR8, PCRE2_SPTR8 *,
+                                     PCRE2_SPTR8 *);
 int pcre2_substring_number_from_name_8(const pcre2_code_8 *, PCRE2_SPTR8);
 void pcre2_substring_list_free_8(PCRE2_SPTR8 *);
 int pcre2_substring_list_get_8(pcre2_match_data_8 *, PCRE2_UCHAR8 ***, size_t **);
 
-int pcre2_substitute_8(const pcre2_code_8 *, PCRE2_SPTR8, size_t, size_t, uint32_t, pcre2_match_data_8 *,
-                       pcre2_match_context_8 *, PCRE2_SPTR8, size_t, PCRE2_UCHAR8 *, size_t *);
+int pcre2_substitute_8(const pcre2_code_8 *, PCRE2_SPTR8, size_t, size_t, uint32_t,
+                       pcre2_match_data_8 *, pcre2_match_context_8 *, PCRE2_SPTR8, size_t,
+                       PCRE2_UCHAR8 *, size_t *);
 
-int32_t pcre2_serialize_encode_8(const pcre2_code_8 **, int32_t, uint8_t **, size_t *, pcre2_general_context_8 *);
-int32_t pcre2_serialize_decode_8(pcre2_code_8 **, int32_t, const uint8_t *, pcre2_general_context_8 *);
+int32_t pcre2_serialize_encode_8(const pcre2_code_8 **, int32_t, uint8_t **, size_t *,
+                                 pcre2_general_context_8 *);
+int32_t pcre2_serialize_decode_8(pcre2_code_8 **, int32_t, const uint8_t *,
+                                 pcre2_general_context_8 *);
 int32_t pcre2_serialize_get_number_of_codes_8(const uint8_t *);
 void pcre2_serialize_free_8(uint8_t *);
 
 int pcre2_jit_compile_8(pcre2_code_8 *, uint32_t);
-int pcre2_jit_match_8(const pcre2_code_8 *, PCRE2_SPTR8, size_t, size_t, uint32_t, pcre2_match_data_8 *,
-                      pcre2_match_context_8 *);
+int pcre2_jit_match_8(const pcre2_code_8 *, PCRE2_SPTR8, size_t, size_t, uint32_t,
+                      pcre2_match_data_8 *, pcre2_match_context_8 *);
 void pcre2_jit_free_unused_memory_8(pcre2_general_context_8 *);
 pcre2_jit_stack_8 *pcre2_jit_stack_create_8(size_t, size_t, pcre2_general_context_8 *);
 void pcre2_jit_stack_assign_8(pcre2_match_context_8 *, pcre2_jit_callback_8, void *);

@@ -1,13 +1,18 @@
-/* Serialized codes: the pattern and what it was compiled with, which is compiled again (pcre2serialize). They serve
-   the library that wrote them, and aren't to be read from where they can't be trusted. */
+/* Serialized codes: the pattern and what it was compiled with, which is compiled again
+   (pcre2serialize). They serve the library that wrote them, and aren't to be read from where they
+   can't be trusted. */
 #include "library.h"
 
 #include <string.h>
 
 #define SERIAL_MAGIC 0x31726f6fu
 
-struct head { uint32_t magic, count; };
-struct row { uint32_t options, extra, newline, bsr, len; };
+struct head {
+  uint32_t magic, count;
+};
+struct row {
+  uint32_t options, extra, newline, bsr, len;
+};
 
 int32_t pcre2_serialize_encode(const pcre2_code **codes, int32_t n, uint8_t **out, size_t *out_len,
                                pcre2_general_context *g) {
@@ -43,7 +48,8 @@ int32_t pcre2_serialize_get_number_of_codes(const uint8_t *block) {
   return head.magic == SERIAL_MAGIC ? (int32_t)head.count : PCRE2_ERROR_BADMAGIC;
 }
 
-int32_t pcre2_serialize_decode(pcre2_code **codes, int32_t n, const uint8_t *block, pcre2_general_context *g) {
+int32_t pcre2_serialize_decode(pcre2_code **codes, int32_t n, const uint8_t *block,
+                               pcre2_general_context *g) {
   if (!codes || !block) return PCRE2_ERROR_NULL;
   if (n <= 0) return PCRE2_ERROR_BADDATA;
   int32_t all = pcre2_serialize_get_number_of_codes(block);
@@ -63,8 +69,10 @@ int32_t pcre2_serialize_decode(pcre2_code **codes, int32_t n, const uint8_t *blo
     with.extra = row.extra;
     codes[i] = pcre2_compile(block + sizeof row, row.len, row.options, &error, &at, &with);
     if (!codes[i]) {
-      while (i > 0) pcre2_code_free(codes[--i]);
-      return error == PCRE2_ERROR_HEAP_FAILED ? PCRE2_ERROR_NOMEMORY : PCRE2_ERROR_BADSERIALIZEDDATA;
+      while (i > 0)
+        pcre2_code_free(codes[--i]);
+      return error == PCRE2_ERROR_HEAP_FAILED ? PCRE2_ERROR_NOMEMORY
+                                              : PCRE2_ERROR_BADSERIALIZEDDATA;
     }
     block += sizeof row + row.len;
   }

@@ -3,9 +3,9 @@
 
 #include <string.h>
 
-#define SUBSTITUTE_OPTIONS                                                                                             \
-  (PCRE2_SUBSTITUTE_GLOBAL | PCRE2_SUBSTITUTE_EXTENDED | PCRE2_SUBSTITUTE_UNSET_EMPTY |                                \
-   PCRE2_SUBSTITUTE_UNKNOWN_UNSET | PCRE2_SUBSTITUTE_OVERFLOW_LENGTH | PCRE2_SUBSTITUTE_LITERAL |                      \
+#define SUBSTITUTE_OPTIONS                                                                        \
+  (PCRE2_SUBSTITUTE_GLOBAL | PCRE2_SUBSTITUTE_EXTENDED | PCRE2_SUBSTITUTE_UNSET_EMPTY |           \
+   PCRE2_SUBSTITUTE_UNKNOWN_UNSET | PCRE2_SUBSTITUTE_OVERFLOW_LENGTH | PCRE2_SUBSTITUTE_LITERAL | \
    PCRE2_SUBSTITUTE_MATCHED | PCRE2_SUBSTITUTE_REPLACEMENT_ONLY)
 
 /* A text, with the place of no bytes where it has none. */
@@ -33,16 +33,18 @@ static int utf_fault(const struct part *subject, const struct part *by) {
   return at < by->len ? character_fault(by->bytes + at, by->len - at, &n) : PCRE2_ERROR_UTF8_ERR1;
 }
 
-/* The count of replacements, or why there are none; the room's length becomes the text's, without its closing zero. */
+/* The count of replacements, or why there are none; the room's length becomes the text's, without
+ * its closing zero. */
 static int replace(pcre2_match_data *m, const struct part *subject, size_t start, uint32_t options,
-                   const pcre2_match_context *with, const struct part *by, uint8_t *out, size_t *room) {
+                   const pcre2_match_context *with, const struct part *by, uint8_t *out,
+                   size_t *room) {
   bool by_depth;
   uint8_t none[1];
   size_t most = *room;
   struct door_match_asked asked = match_asked(options, with, &by_depth);
   struct door_subst_asked how = asked_of(options);
-  struct door_subst_answer a = door_replace(&m->own, subject->bytes, subject->len, start, &asked, &how, by->bytes,
-                                            by->len, most ? out : none, most);
+  struct door_subst_answer a = door_replace(&m->own, subject->bytes, subject->len, start, &asked,
+                                            &how, by->bytes, by->len, most ? out : none, most);
   *room = PCRE2_UNSET;
   if (a.code == PCRE2_ERROR_UTF8_ERR1) return utf_fault(subject, by);
   if (a.code != 0) return limit_code(a.code, by_depth);
@@ -56,16 +58,19 @@ static int replace(pcre2_match_data *m, const struct part *subject, size_t start
   return (int)a.count;
 }
 
-int pcre2_substitute(const pcre2_code *c, PCRE2_SPTR subject, size_t len, size_t start, uint32_t options,
-                     pcre2_match_data *m, pcre2_match_context *mc, PCRE2_SPTR by, size_t by_len, PCRE2_UCHAR *out,
-                     size_t *room) {
+int pcre2_substitute(const pcre2_code *c, PCRE2_SPTR subject, size_t len, size_t start,
+                     uint32_t options, pcre2_match_data *m, pcre2_match_context *mc, PCRE2_SPTR by,
+                     size_t by_len, PCRE2_UCHAR *out, size_t *room) {
   const pcre2_match_context *with = mc ? mc : &plain_match;
   if (!c || !room || (!by && by_len != 0) || (!out && *room != 0)) return PCRE2_ERROR_NULL;
-  if (options & ~(MATCH_OPTIONS | SUBSTITUTE_OPTIONS) || options & (PCRE2_PARTIAL_HARD | PCRE2_PARTIAL_SOFT))
+  if (options & ~(MATCH_OPTIONS | SUBSTITUTE_OPTIONS) ||
+      options & (PCRE2_PARTIAL_HARD | PCRE2_PARTIAL_SOFT))
     return PCRE2_ERROR_BADOPTION;
   if (options & PCRE2_SUBSTITUTE_MATCHED && !m) return PCRE2_ERROR_NULL;
-  if (with->substitute_callout) return PCRE2_ERROR_CALLOUT; /* substitution callouts aren't served */
-  /* The match of SUBSTITUTE_MATCHED is found again: it is that of the same code, subject and options. */
+  if (with->substitute_callout)
+    return PCRE2_ERROR_CALLOUT; /* substitution callouts aren't served */
+  /* The match of SUBSTITUTE_MATCHED is found again: it is that of the same code, subject and
+   * options. */
   bool is_own = !m || options & PCRE2_SUBSTITUTE_MATCHED;
   if (is_own) m = pcre2_match_data_create(1, NULL);
   int rc = m ? begin_match(m, c, &subject, &len, start, options, with) : PCRE2_ERROR_NOMEMORY;

@@ -1,5 +1,6 @@
-/* The texts of groups and of errors (pcre2api, "Extracting captured substrings by number", "Extracting captured
-   substrings by name", "Extracting a list of all captured substrings", "Obtaining a textual error message"). */
+/* The texts of groups and of errors (pcre2api, "Extracting captured substrings by number",
+   "Extracting captured substrings by name", "Extracting a list of all captured substrings",
+   "Obtaining a textual error message"). */
 #include "library.h"
 
 #include <stdio.h>
@@ -7,8 +8,8 @@
 
 /* ---- by number ---- */
 
-/* Where a group's text stands: 0, or why there is none. An end before the begin, as `\K` in a lookahead leaves it,
-   counts as no text. */
+/* Where a group's text stands: 0, or why there is none. An end before the begin, as `\K` in a
+   lookahead leaves it, counts as no text. */
 static int find_group(const pcre2_match_data *m, uint32_t n, size_t *from, size_t *len) {
   if (m->rc < 0 && m->rc != PCRE2_ERROR_PARTIAL) return m->rc;
   if (m->rc == PCRE2_ERROR_PARTIAL && n > 0) return PCRE2_ERROR_PARTIAL;
@@ -44,7 +45,8 @@ int pcre2_substring_copy_bynumber(pcre2_match_data *m, uint32_t n, PCRE2_UCHAR *
   return 0;
 }
 
-int pcre2_substring_get_bynumber(pcre2_match_data *m, uint32_t n, PCRE2_UCHAR **out, size_t *out_len) {
+int pcre2_substring_get_bynumber(pcre2_match_data *m, uint32_t n, PCRE2_UCHAR **out,
+                                 size_t *out_len) {
   size_t from, len;
   int rc = find_group(m, n, &from, &len);
   if (rc < 0) return rc;
@@ -60,7 +62,8 @@ void pcre2_substring_free(PCRE2_UCHAR *text) { give_text(text); }
 
 /* ---- by name ---- */
 
-int pcre2_substring_nametable_scan(const pcre2_code *c, PCRE2_SPTR name, PCRE2_SPTR *first, PCRE2_SPTR *last) {
+int pcre2_substring_nametable_scan(const pcre2_code *c, PCRE2_SPTR name, PCRE2_SPTR *first,
+                                   PCRE2_SPTR *last) {
   const uint8_t *a = NULL, *b = NULL;
   for (uint32_t i = 0; i < c->name_count; i++) {
     const uint8_t *entry = c->names + i * c->name_size;
@@ -84,7 +87,8 @@ static int by_name(const pcre2_match_data *m, PCRE2_SPTR name) {
   PCRE2_SPTR first, last;
   if (m->by_dfa) return PCRE2_ERROR_DFA_UFUNC;
   if (!m->code) return PCRE2_ERROR_NOSUBSTRING;
-  int size = pcre2_substring_nametable_scan(m->code, name, &first, &last), failed = PCRE2_ERROR_UNAVAILABLE;
+  int size = pcre2_substring_nametable_scan(m->code, name, &first, &last),
+      failed = PCRE2_ERROR_UNAVAILABLE;
   if (size < 0) return size;
   for (PCRE2_SPTR e = first; e <= last; e += size) {
     int n = e[0] << 8 | e[1];
@@ -100,12 +104,14 @@ int pcre2_substring_length_byname(pcre2_match_data *m, PCRE2_SPTR name, size_t *
   return n < 0 ? n : pcre2_substring_length_bynumber(m, (uint32_t)n, len);
 }
 
-int pcre2_substring_copy_byname(pcre2_match_data *m, PCRE2_SPTR name, PCRE2_UCHAR *out, size_t *room) {
+int pcre2_substring_copy_byname(pcre2_match_data *m, PCRE2_SPTR name, PCRE2_UCHAR *out,
+                                size_t *room) {
   int n = by_name(m, name);
   return n < 0 ? n : pcre2_substring_copy_bynumber(m, (uint32_t)n, out, room);
 }
 
-int pcre2_substring_get_byname(pcre2_match_data *m, PCRE2_SPTR name, PCRE2_UCHAR **out, size_t *len) {
+int pcre2_substring_get_byname(pcre2_match_data *m, PCRE2_SPTR name, PCRE2_UCHAR **out,
+                               size_t *len) {
   int n = by_name(m, name);
   return n < 0 ? n : pcre2_substring_get_bynumber(m, (uint32_t)n, out, len);
 }
@@ -120,7 +126,8 @@ static size_t list_len(const pcre2_match_data *m, size_t i) {
 int pcre2_substring_list_get(pcre2_match_data *m, PCRE2_UCHAR ***list, size_t **lens) {
   if (m->rc < 0) return m->rc;
   size_t n = m->rc == 0 ? m->count : (size_t)m->rc, texts_len = 0;
-  for (size_t i = 0; i < n; i++) texts_len += list_len(m, i) + 1;
+  for (size_t i = 0; i < n; i++)
+    texts_len += list_len(m, i) + 1;
   size_t lens_len = lens ? n * sizeof(size_t) : 0;
   uint8_t **texts = get_text(&m->memory, (n + 1) * sizeof *texts + lens_len + texts_len);
   if (!texts) return PCRE2_ERROR_NOMEMORY;
@@ -143,7 +150,10 @@ void pcre2_substring_list_free(PCRE2_SPTR *list) { give_text((void *)(uintptr_t)
 
 /* ---- errors ---- */
 
-static const struct { int number; const char *text; } texts[] = {
+static const struct {
+  int number;
+  const char *text;
+} texts[] = {
     {100, "no error"},
     {PCRE2_ERROR_NULL_PATTERN, "no pattern, but a length"},
     {PCRE2_ERROR_BAD_OPTIONS, "options that there aren't or that aren't built"},
@@ -168,7 +178,8 @@ static const struct { int number; const char *text; } texts[] = {
     {PCRE2_ERROR_DFA_UCOND, "condition that a search for all ends can't test"},
     {PCRE2_ERROR_DFA_UFUNC, "question that a search for all ends can't answer"},
     {PCRE2_ERROR_DFA_UITEM, "item that a search for all ends can't match"},
-    {PCRE2_ERROR_DFA_WSSIZE, "pattern or workspace is of a size that a search for all ends can't have"},
+    {PCRE2_ERROR_DFA_WSSIZE,
+     "pattern or workspace is of a size that a search for all ends can't have"},
     {PCRE2_ERROR_INTERNAL, "internal error"},
     {PCRE2_ERROR_JIT_BADOPTION, "bad option of just-in-time compiling"},
     {PCRE2_ERROR_JIT_STACKLIMIT, "stack of just-in-time compiling is full"},
@@ -200,7 +211,8 @@ static size_t message(int number, char *out, size_t room) {
     if (texts[i].number == number) return (size_t)snprintf(out, room, "%s", texts[i].text);
   }
   if (number <= PCRE2_ERROR_UTF8_ERR1 && number >= PCRE2_ERROR_UTF32_ERR2)
-    return (size_t)snprintf(out, room, "invalid UTF, of kind %d", PCRE2_ERROR_UTF8_ERR1 + 1 - number);
+    return (size_t)snprintf(out, room, "invalid UTF, of kind %d",
+                            PCRE2_ERROR_UTF8_ERR1 + 1 - number);
   if (number <= 100 || number > PCRE2_ERROR_BACKSLASH_K_IN_LOOKAROUND) return 0;
   size_t len = door_fault_text(number, (uint8_t *)out, room);
   return len ? len : (size_t)snprintf(out, room, "fault %d of a pattern", number);

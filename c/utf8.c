@@ -8,11 +8,13 @@ int character_fault(const uint8_t *s, size_t n, size_t *len) {
                             PCRE2_ERROR_UTF8_ERR4, PCRE2_ERROR_UTF8_ERR5};
   static const int stray[] = {PCRE2_ERROR_UTF8_ERR6, PCRE2_ERROR_UTF8_ERR7, PCRE2_ERROR_UTF8_ERR8,
                               PCRE2_ERROR_UTF8_ERR9, PCRE2_ERROR_UTF8_ERR10};
-  static const struct { uint8_t first, second; int fault; } overlong[] = {
-      {0xe0, 0xa0, PCRE2_ERROR_UTF8_ERR16},
-      {0xf0, 0x90, PCRE2_ERROR_UTF8_ERR17},
-      {0xf8, 0x88, PCRE2_ERROR_UTF8_ERR18},
-      {0xfc, 0x84, PCRE2_ERROR_UTF8_ERR19}};
+  static const struct {
+    uint8_t first, second;
+    int fault;
+  } overlong[] = {{0xe0, 0xa0, PCRE2_ERROR_UTF8_ERR16},
+                  {0xf0, 0x90, PCRE2_ERROR_UTF8_ERR17},
+                  {0xf8, 0x88, PCRE2_ERROR_UTF8_ERR18},
+                  {0xfc, 0x84, PCRE2_ERROR_UTF8_ERR19}};
   uint8_t c = s[0];
   *len = 1;
   if (c < 0x80) return 0;

@@ -15,7 +15,8 @@ STOCK = os.environ.get("STOCK", "libpcre2-8.so.0")
 OURS = os.environ.get("OURS", f"{TOP}/lib/libpcre2-8.so.0")
 
 PLAIN = 0x1C000  # NO_AUTO_POSSESS, NO_DOTSTAR_ANCHOR, NO_START_OPTIMIZE
-OPTIONS = [0x8, 0x400, 0x20, 0x80000, 0xA0000, 0x80, 0x80000000, 0x10, 0x40000, 0x100, 0x40, 0x2000, 0x20000000, 0x200, 0x1]
+OPTIONS = [0x8, 0x400, 0x20, 0x80000, 0xA0000, 0x80, 0x80000000, 0x10, 0x40000, 0x100, 0x40, 0x2000,
+           0x20000000, 0x200, 0x1]
 MATCH_OPTIONS = [0x1, 0x2, 0x4, 0x8, 0x10, 0x20, 0x80000000]
 PARTIAL = 0x30
 INFO = {"groups": 4, "names": 17, "entry": 18, "empty": 13}
@@ -23,8 +24,10 @@ LIMITS = {-47, -52, -53, -63}
 NOT_BUILT = {195}
 NO_DFA = {-40, -42, -43}
 
-ITEMS = r"""a b c x ab . \d \w \s \b \B ^ $ [ab] [^a] [a-c\d] \W é \x41 \h \R \N [[:alpha:]] \p{L} \P{Lu} \A \z \Z \G A B 1
-\n [é-ü] \S \D (?i) \1 \2 (?1) (?R) \g{-1} \k<n> (*ACCEPT) (*FAIL) (*COMMIT) (*PRUNE) (*SKIP) (*THEN) (*MARK:m) \Q+\E
+ITEMS = r"""a b c x ab . \d \w \s \b \B ^ $ [ab] [^a] [a-c\d] \W é \x41 \h \R \N [[:alpha:]] \p{L}
+\P{Lu} \A \z \Z \G A B 1
+\n [é-ü] \S \D (?i) \1 \2 (?1) (?R) \g{-1} \k<n> (*ACCEPT) (*FAIL) (*COMMIT) (*PRUNE) (*SKIP)
+(*THEN) (*MARK:m) \Q+\E
 (?#c) (?x) \v (?-i) (?s) (?m) (?J)""".split()
 COMMON = ITEMS[:24]
 QUANTIFIERS = "* + ? {2} {1,3} {0,2} *? +? ?? *+ ++ ?+ {2,}".split()
@@ -50,7 +53,8 @@ class Library:
 
     def compile(self, pattern, options):
         error, at = ctypes.c_int(), ctypes.c_size_t()
-        code = self.call("compile")(pattern, ctypes.c_size_t(len(pattern)), options, ctypes.byref(error), ctypes.byref(at), None)
+        told = ctypes.byref(error), ctypes.byref(at)
+        code = self.call("compile")(pattern, ctypes.c_size_t(len(pattern)), options, *told, None)
         return ctypes.c_void_p(code) if code else None, (error.value, at.value)
 
     def free(self, code):
@@ -85,7 +89,8 @@ class Library:
     def substitute(self, code, subject, start, options, by):
         out, room = ctypes.create_string_buffer(2000), ctypes.c_size_t(2000)
         sizes = ctypes.c_size_t(len(subject)), ctypes.c_size_t(start)
-        rc = self.call("substitute")(code, subject, *sizes, options, None, self.with_limit, by, ctypes.c_size_t(len(by)), out, ctypes.byref(room))
+        places = by, ctypes.c_size_t(len(by)), out, ctypes.byref(room)
+        rc = self.call("substitute")(code, subject, *sizes, options, None, self.with_limit, *places)
         return rc, out.raw[: room.value] if rc >= 0 else b""
 
 

@@ -1,5 +1,5 @@
-/* Tries the calls of pcre2api(3) on good and bad input, and writes what each answers. Run over two libraries, what
-   they write is compared (tests/run). */
+/* Tries the calls of pcre2api(3) on good and bad input, and writes what each answers. Run over two
+   libraries, what they write is compared (tests/run). */
 #define PCRE2_CODE_UNIT_WIDTH 8
 #include "../c/pcre2.h"
 
@@ -23,9 +23,11 @@ static void places(const char *what, int rc, pcre2_match_data *m) {
   uint32_t n = rc == PCRE2_ERROR_PARTIAL ? 1 : rc > 0 ? (uint32_t)rc : pcre2_get_ovector_count(m);
   printf("%s: %d", what, rc);
   if (rc >= 0 || rc == PCRE2_ERROR_PARTIAL) {
-    for (uint32_t i = 0; i < n; i++) printf(" %zd-%zd", v[2 * i], v[2 * i + 1]);
+    for (uint32_t i = 0; i < n; i++)
+      printf(" %zd-%zd", v[2 * i], v[2 * i + 1]);
   }
-  if (rc >= PCRE2_ERROR_PARTIAL && pcre2_get_mark(m)) printf(" mark %s", (const char *)pcre2_get_mark(m));
+  if (rc >= PCRE2_ERROR_PARTIAL && pcre2_get_mark(m))
+    printf(" mark %s", (const char *)pcre2_get_mark(m));
   puts("");
 }
 
@@ -43,9 +45,11 @@ static void number(const pcre2_code *c, const char *what, uint32_t question) {
 }
 
 static void configuration(void) {
-  static const uint32_t numbers[] = {
-      PCRE2_CONFIG_BSR, PCRE2_CONFIG_LINKSIZE, PCRE2_CONFIG_MATCHLIMIT, PCRE2_CONFIG_NEWLINE, PCRE2_CONFIG_PARENSLIMIT,
-      PCRE2_CONFIG_DEPTHLIMIT, PCRE2_CONFIG_STACKRECURSE, PCRE2_CONFIG_UNICODE, PCRE2_CONFIG_HEAPLIMIT, 999};
+  static const uint32_t numbers[] = {PCRE2_CONFIG_BSR,          PCRE2_CONFIG_LINKSIZE,
+                                     PCRE2_CONFIG_MATCHLIMIT,   PCRE2_CONFIG_NEWLINE,
+                                     PCRE2_CONFIG_PARENSLIMIT,  PCRE2_CONFIG_DEPTHLIMIT,
+                                     PCRE2_CONFIG_STACKRECURSE, PCRE2_CONFIG_UNICODE,
+                                     PCRE2_CONFIG_HEAPLIMIT,    999};
   for (size_t i = 0; i < sizeof numbers / sizeof *numbers; i++) {
     uint32_t n = 0;
     int size = pcre2_config(numbers[i], NULL), rc = pcre2_config(numbers[i], &n);
@@ -57,14 +61,41 @@ static void configuration(void) {
 }
 
 static void compiling(void) {
-  static const struct { const char *pattern; uint32_t options; } rows[] = {
-      {"a", 0}, {"(", 0}, {")", 0}, {"a)(b", 0}, {"[", 0}, {"a{2,1}", 0}, {"*a", 0}, {"\\", 0}, {"(?<n>a)(?<n>b)", 0},
-      {"(?<n>a)(?<n>b)", PCRE2_DUPNAMES}, {"\\1", 0}, {"(?<=a+)b", 0}, {"\\p{Foo}", 0}, {"[b-a]", 0}, {"(?z)", 0},
-      {"\\y", 0}, {"(?#", 0}, {"(*FOO)", 0}, {"\xff", PCRE2_UTF}, {"a\xc3", PCRE2_UTF}, {"a\xe2\x82", PCRE2_UTF},
-      {"\xed\xa0\x80", PCRE2_UTF}, {"\xf5\x80\x80\x80", PCRE2_UTF}, {"\xc0\x80", PCRE2_UTF}, {"(a", PCRE2_LITERAL},
-      {"a", PCRE2_LITERAL | PCRE2_MULTILINE}, {"a", 0x08000000u}, {"(*UTF)a", PCRE2_NEVER_UTF},
-      {"(*UCP)a", PCRE2_NEVER_UCP}, {"", 0}};
-  for (size_t i = 0; i < sizeof rows / sizeof *rows; i++) pcre2_code_free(code(rows[i].pattern, rows[i].options, NULL));
+  static const struct {
+    const char *pattern;
+    uint32_t options;
+  } rows[] = {{"a", 0},
+              {"(", 0},
+              {")", 0},
+              {"a)(b", 0},
+              {"[", 0},
+              {"a{2,1}", 0},
+              {"*a", 0},
+              {"\\", 0},
+              {"(?<n>a)(?<n>b)", 0},
+              {"(?<n>a)(?<n>b)", PCRE2_DUPNAMES},
+              {"\\1", 0},
+              {"(?<=a+)b", 0},
+              {"\\p{Foo}", 0},
+              {"[b-a]", 0},
+              {"(?z)", 0},
+              {"\\y", 0},
+              {"(?#", 0},
+              {"(*FOO)", 0},
+              {"\xff", PCRE2_UTF},
+              {"a\xc3", PCRE2_UTF},
+              {"a\xe2\x82", PCRE2_UTF},
+              {"\xed\xa0\x80", PCRE2_UTF},
+              {"\xf5\x80\x80\x80", PCRE2_UTF},
+              {"\xc0\x80", PCRE2_UTF},
+              {"(a", PCRE2_LITERAL},
+              {"a", PCRE2_LITERAL | PCRE2_MULTILINE},
+              {"a", 0x08000000u},
+              {"(*UTF)a", PCRE2_NEVER_UTF},
+              {"(*UCP)a", PCRE2_NEVER_UCP},
+              {"", 0}};
+  for (size_t i = 0; i < sizeof rows / sizeof *rows; i++)
+    pcre2_code_free(code(rows[i].pattern, rows[i].options, NULL));
   int error = 0;
   size_t at = 0;
   printf("NULL: %d", pcre2_compile(NULL, 3, 0, &error, &at, NULL) != NULL);
@@ -72,11 +103,13 @@ static void compiling(void) {
   pcre2_code *c = pcre2_compile(NULL, 0, 0, &error, &at, NULL);
   printf("NULL of no length: %d\n", c != NULL);
   pcre2_code_free(c);
-  printf("nowhere to tell a fault: %d\n", pcre2_compile((PCRE2_SPTR) "a", 1, 0, NULL, &at, NULL) != NULL);
+  printf("nowhere to tell a fault: %d\n",
+         pcre2_compile((PCRE2_SPTR) "a", 1, 0, NULL, &at, NULL) != NULL);
   pcre2_code_free(NULL);
   pcre2_compile_context *with = pcre2_compile_context_create(NULL);
-  printf("newline %d %d bsr %d %d\n", pcre2_set_newline(with, 7), pcre2_set_newline(with, PCRE2_NEWLINE_CRLF),
-         pcre2_set_bsr(with, 3), pcre2_set_bsr(with, PCRE2_BSR_ANYCRLF));
+  printf("newline %d %d bsr %d %d\n", pcre2_set_newline(with, 7),
+         pcre2_set_newline(with, PCRE2_NEWLINE_CRLF), pcre2_set_bsr(with, 3),
+         pcre2_set_bsr(with, PCRE2_BSR_ANYCRLF));
   pcre2_set_max_pattern_length(with, 3);
   pcre2_code_free(code("abcd", 0, with));
   c = code("a.c", 0, with);
@@ -96,7 +129,11 @@ static void wrapped(uint32_t extra) {
   printf("extra %x: %d\n", extra, pcre2_set_compile_extra_options(with, extra));
   for (size_t i = 0; i < sizeof patterns / sizeof *patterns; i++) {
     for (int literal = 0; literal < 2; literal++) {
-      pcre2_code *c = code(patterns[i], literal ? PCRE2_LITERAL : i == 5 ? PCRE2_EXTENDED : 0, with);
+      pcre2_code *c = code(patterns[i],
+                           literal  ? PCRE2_LITERAL
+                           : i == 5 ? PCRE2_EXTENDED
+                                    : 0,
+                           with);
       if (!c) continue;
       pcre2_match_data *m = pcre2_match_data_create_from_pattern(c, NULL);
       find(c, "ab", 0, 0, m);
@@ -124,33 +161,52 @@ static void bad_escapes(void) {
 
 static void information(void) {
   pcre2_code *c = code("(?<year>\\d{4})-(?<m>\\d\\d)(x)?", 0, NULL);
-  static const struct { const char *name; uint32_t question; } rows[] = {
-      {"all options", PCRE2_INFO_ALLOPTIONS}, {"options", PCRE2_INFO_ARGOPTIONS}, {"extra", PCRE2_INFO_EXTRAOPTIONS},
-      {"bsr", PCRE2_INFO_BSR}, {"groups", PCRE2_INFO_CAPTURECOUNT}, {"CR or LF", PCRE2_INFO_HASCRORLF},
-      {"J", PCRE2_INFO_JCHANGED}, {"empty", PCRE2_INFO_MATCHEMPTY}, {"match limit", PCRE2_INFO_MATCHLIMIT},
-      {"lookbehind", PCRE2_INFO_MAXLOOKBEHIND}, {"names", PCRE2_INFO_NAMECOUNT}, {"entry", PCRE2_INFO_NAMEENTRYSIZE},
-      {"newline", PCRE2_INFO_NEWLINE}, {"depth limit", PCRE2_INFO_DEPTHLIMIT}, {"\\C", PCRE2_INFO_HASBACKSLASHC},
-      {"heap limit", PCRE2_INFO_HEAPLIMIT}, {"none", 999}};
-  for (size_t i = 0; i < sizeof rows / sizeof *rows; i++) number(c, rows[i].name, rows[i].question);
+  static const struct {
+    const char *name;
+    uint32_t question;
+  } rows[] = {{"all options", PCRE2_INFO_ALLOPTIONS},
+              {"options", PCRE2_INFO_ARGOPTIONS},
+              {"extra", PCRE2_INFO_EXTRAOPTIONS},
+              {"bsr", PCRE2_INFO_BSR},
+              {"groups", PCRE2_INFO_CAPTURECOUNT},
+              {"CR or LF", PCRE2_INFO_HASCRORLF},
+              {"J", PCRE2_INFO_JCHANGED},
+              {"empty", PCRE2_INFO_MATCHEMPTY},
+              {"match limit", PCRE2_INFO_MATCHLIMIT},
+              {"lookbehind", PCRE2_INFO_MAXLOOKBEHIND},
+              {"names", PCRE2_INFO_NAMECOUNT},
+              {"entry", PCRE2_INFO_NAMEENTRYSIZE},
+              {"newline", PCRE2_INFO_NEWLINE},
+              {"depth limit", PCRE2_INFO_DEPTHLIMIT},
+              {"\\C", PCRE2_INFO_HASBACKSLASHC},
+              {"heap limit", PCRE2_INFO_HEAPLIMIT},
+              {"none", 999}};
+  for (size_t i = 0; i < sizeof rows / sizeof *rows; i++)
+    number(c, rows[i].name, rows[i].question);
   printf("NULL: %d\n", pcre2_pattern_info(NULL, PCRE2_INFO_BSR, NULL));
   PCRE2_SPTR table, first, last;
   uint32_t size = 0;
   pcre2_pattern_info(c, PCRE2_INFO_NAMETABLE, &table);
   pcre2_pattern_info(c, PCRE2_INFO_NAMEENTRYSIZE, &size);
-  for (uint32_t i = 0; i < 2; i++) printf("entry %d %s\n", table[i * size] << 8 | table[i * size + 1], table + i * size + 2);
+  for (uint32_t i = 0; i < 2; i++)
+    printf("entry %d %s\n", table[i * size] << 8 | table[i * size + 1], table + i * size + 2);
   printf("numbers %d %d\n", pcre2_substring_number_from_name(c, (PCRE2_SPTR) "m"),
          pcre2_substring_number_from_name(c, (PCRE2_SPTR) "z"));
-  printf("scan %d\n", pcre2_substring_nametable_scan(c, (PCRE2_SPTR) "year", &first, &last) == (int)size && first == last);
+  printf("scan %d\n",
+         pcre2_substring_nametable_scan(c, (PCRE2_SPTR) "year", &first, &last) == (int)size &&
+             first == last);
   pcre2_code_free(c);
   c = code("(*LIMIT_MATCH=12)(*UTF)(*UCP)(?J)(?<n>a)|(?<n>b)\\n", 0, NULL);
-  for (size_t i = 0; i < sizeof rows / sizeof *rows; i++) number(c, rows[i].name, rows[i].question);
+  for (size_t i = 0; i < sizeof rows / sizeof *rows; i++)
+    number(c, rows[i].name, rows[i].question);
   printf("number %d\n", pcre2_substring_number_from_name(c, (PCRE2_SPTR) "n"));
   pcre2_code_free(c);
 }
 
 static void matching(void) {
   pcre2_code *c = code("(a)|(b)(*MARK:m)(c)?", 0, NULL);
-  pcre2_match_data *m = pcre2_match_data_create_from_pattern(c, NULL), *none = pcre2_match_data_create(0, NULL);
+  pcre2_match_data *m = pcre2_match_data_create_from_pattern(c, NULL),
+                   *none = pcre2_match_data_create(0, NULL);
   printf("pairs %u %u\n", pcre2_get_ovector_count(m), pcre2_get_ovector_count(none));
   find(c, "xb", 0, 0, m);
   find(c, "xbc", 0, 0, m);
@@ -164,9 +220,10 @@ static void matching(void) {
   find(c, "a", 0, 0x04000000u, m);
   find(c, "a", 0, PCRE2_PARTIAL_SOFT | PCRE2_ENDANCHORED, m);
   find(c, "a", 0, PCRE2_NO_JIT, m);
-  printf("NULL code %d, data %d, subject %d, of no length %d\n", pcre2_match(NULL, (PCRE2_SPTR) "", 0, 0, 0, m, NULL),
-         pcre2_match(c, (PCRE2_SPTR) "", 0, 0, 0, NULL, NULL), pcre2_match(c, NULL, 1, 0, 0, m, NULL),
-         pcre2_match(c, NULL, 0, 0, 0, m, NULL));
+  printf("NULL code %d, data %d, subject %d, of no length %d\n",
+         pcre2_match(NULL, (PCRE2_SPTR) "", 0, 0, 0, m, NULL),
+         pcre2_match(c, (PCRE2_SPTR) "", 0, 0, 0, NULL, NULL),
+         pcre2_match(c, NULL, 1, 0, 0, m, NULL), pcre2_match(c, NULL, 0, 0, 0, m, NULL));
   pcre2_match_data_free(none);
   pcre2_match_data_free(m);
   pcre2_match_data_free(NULL);
@@ -187,18 +244,36 @@ static void matching(void) {
   c = code("(?:(?:a|b)*)*c", PCRE2_NO_START_OPTIMIZE, NULL);
   with = pcre2_match_context_create(NULL);
   pcre2_set_match_limit(with, 20);
-  printf("match limit %d\n", pcre2_match(c, (PCRE2_SPTR) "ababababababababababab", 22, 0, 0, m, with));
+  printf("match limit %d\n",
+         pcre2_match(c, (PCRE2_SPTR) "ababababababababababab", 22, 0, 0, m, with));
   pcre2_match_context_free(with);
   pcre2_match_data_free(m);
   pcre2_code_free(c);
 }
 
 static void utf(void) {
-  static const char *const texts[] = {"a\xff", "\xc3", "é\xe2\x82", "\xf0\x9f\x98", "\xed\xa0\x80", "\xf4\x90\x80\x80",
-                                      "\xc1\xbf", "\xe0\x80\x80", "\xf0\x80\x80\x80", "\xf8\x80\x80\x80\x80", "\x80",
-                                      "\xfe", "\xf8\x88\x80\x80\x80", "\xfc\x84\x80\x80\x80\x80", "\xc3\x28",
-                                      "\xe2\x28\xa1", "\xe2\x82\x28", "\xf0\x90\x28\xbc", "\xf0\x90\x8c\x28", "\xf8"};
-  pcre2_code *c = code("é", PCRE2_UTF, NULL), *d = code("(?<!x)\\w+$", PCRE2_MATCH_INVALID_UTF, NULL);
+  static const char *const texts[] = {"a\xff",
+                                      "\xc3",
+                                      "é\xe2\x82",
+                                      "\xf0\x9f\x98",
+                                      "\xed\xa0\x80",
+                                      "\xf4\x90\x80\x80",
+                                      "\xc1\xbf",
+                                      "\xe0\x80\x80",
+                                      "\xf0\x80\x80\x80",
+                                      "\xf8\x80\x80\x80\x80",
+                                      "\x80",
+                                      "\xfe",
+                                      "\xf8\x88\x80\x80\x80",
+                                      "\xfc\x84\x80\x80\x80\x80",
+                                      "\xc3\x28",
+                                      "\xe2\x28\xa1",
+                                      "\xe2\x82\x28",
+                                      "\xf0\x90\x28\xbc",
+                                      "\xf0\x90\x8c\x28",
+                                      "\xf8"};
+  pcre2_code *c = code("é", PCRE2_UTF, NULL),
+             *d = code("(?<!x)\\w+$", PCRE2_MATCH_INVALID_UTF, NULL);
   pcre2_match_data *m = pcre2_match_data_create(1, NULL);
   for (size_t i = 0; i < sizeof texts / sizeof *texts; i++) {
     find(c, texts[i], 0, 0, m);
@@ -207,9 +282,18 @@ static void utf(void) {
   }
   find(c, "éé", 1, 0, m);
   find(c, "éé", 2, 0, m);
-  find(d, "ab\xff" "cd\xfe", 0, 0, m);
-  find(d, "ab\xff" "cd", 0, 0, m);
-  find(d, "xab\xff" "xcd\xff", 1, 0, m);
+  find(d,
+       "ab\xff"
+       "cd\xfe",
+       0, 0, m);
+  find(d,
+       "ab\xff"
+       "cd",
+       0, 0, m);
+  find(d,
+       "xab\xff"
+       "xcd\xff",
+       1, 0, m);
   pcre2_match_data_free(m);
   pcre2_code_free(c);
   pcre2_code_free(d);
@@ -217,7 +301,8 @@ static void utf(void) {
 
 static void substrings(void) {
   pcre2_code *c = code("(?<n>a)(?<o>b)?(?<p>c)?", PCRE2_DUPNAMES, NULL);
-  pcre2_match_data *m = pcre2_match_data_create_from_pattern(c, NULL), *few = pcre2_match_data_create(2, NULL);
+  pcre2_match_data *m = pcre2_match_data_create_from_pattern(c, NULL),
+                   *few = pcre2_match_data_create(2, NULL);
   int rc[2] = {find(c, "xac", 0, 0, m), find(c, "xab", 0, 0, few)};
   pcre2_match_data *data[] = {m, few};
   for (int k = 0; k < 2; k++) {
@@ -225,7 +310,8 @@ static void substrings(void) {
     for (uint32_t i = 0; i < 5; i++) {
       PCRE2_UCHAR room[2], *text;
       size_t len = 99, size = sizeof room, got = 99;
-      int a = pcre2_substring_length_bynumber(data[k], i, &len), b = pcre2_substring_copy_bynumber(data[k], i, room, &size);
+      int a = pcre2_substring_length_bynumber(data[k], i, &len),
+          b = pcre2_substring_copy_bynumber(data[k], i, room, &size);
       int d = pcre2_substring_get_bynumber(data[k], i, &text, &got);
       printf("group %u: %d %zu, %d, %d %s\n", i, a, len, b, d, d ? "" : (char *)text);
       if (!d) pcre2_substring_free(text);
@@ -233,14 +319,16 @@ static void substrings(void) {
     static const char *const names[] = {"n", "o", "p", "q"};
     for (int i = 0; i < 4; i++) {
       size_t len = 99;
-      printf("name %s: %d", names[i], pcre2_substring_length_byname(data[k], (PCRE2_SPTR)names[i], &len));
+      printf("name %s: %d", names[i],
+             pcre2_substring_length_byname(data[k], (PCRE2_SPTR)names[i], &len));
       printf(" %zu\n", len);
     }
     PCRE2_UCHAR **list;
     size_t *lens;
     int a = pcre2_substring_list_get(data[k], &list, &lens);
     printf("list %d:", a);
-    for (int i = 0; !a && list[i]; i++) printf(" %s/%zu", list[i], lens[i]);
+    for (int i = 0; !a && list[i]; i++)
+      printf(" %s/%zu", list[i], lens[i]);
     puts("");
     if (!a) pcre2_substring_list_free((PCRE2_SPTR *)list);
   }
@@ -256,10 +344,10 @@ static void substrings(void) {
 static void replace(pcre2_code *c, const char *s, const char *by, uint32_t options, size_t room) {
   char out[64] = "";
   size_t len = room;
-  int rc = pcre2_substitute(c, (PCRE2_SPTR)s, strlen(s), 0, options, NULL, NULL, (PCRE2_SPTR)by, strlen(by),
-                            (PCRE2_UCHAR *)(room ? out : NULL), &len);
-  printf("%s by %s %x: %d %zd %s\n", s, by, options, rc, rc >= 0 || rc == PCRE2_ERROR_NOMEMORY ? len : 0,
-         rc >= 0 ? out : "");
+  int rc = pcre2_substitute(c, (PCRE2_SPTR)s, strlen(s), 0, options, NULL, NULL, (PCRE2_SPTR)by,
+                            strlen(by), (PCRE2_UCHAR *)(room ? out : NULL), &len);
+  printf("%s by %s %x: %d %zd %s\n", s, by, options, rc,
+         rc >= 0 || rc == PCRE2_ERROR_NOMEMORY ? len : 0, rc >= 0 ? out : "");
 }
 
 static void substituting(void) {
@@ -292,14 +380,20 @@ static void substituting(void) {
 }
 
 static void all_ends(void) {
-  pcre2_code *c = code("a+|ab", PCRE2_NO_AUTO_POSSESS, NULL), *d = code("(a)\\1", 0, NULL), *u = code("a", PCRE2_MATCH_INVALID_UTF, NULL);
+  pcre2_code *c = code("a+|ab", PCRE2_NO_AUTO_POSSESS, NULL), *d = code("(a)\\1", 0, NULL),
+             *u = code("a", PCRE2_MATCH_INVALID_UTF, NULL);
   pcre2_match_data *m = pcre2_match_data_create(2, NULL), *many = pcre2_match_data_create(6, NULL);
   int work[100];
-  places("all ends", pcre2_dfa_match(c, (PCRE2_SPTR) "xaaab", 5, 0, 0, many, NULL, work, 100), many);
+  places("all ends", pcre2_dfa_match(c, (PCRE2_SPTR) "xaaab", 5, 0, 0, many, NULL, work, 100),
+         many);
   places("all ends", pcre2_dfa_match(c, (PCRE2_SPTR) "xaaab", 5, 0, 0, m, NULL, work, 100), m);
-  places("shortest", pcre2_dfa_match(c, (PCRE2_SPTR) "xaaab", 5, 0, PCRE2_DFA_SHORTEST, many, NULL, work, 100), many);
+  places("shortest",
+         pcre2_dfa_match(c, (PCRE2_SPTR) "xaaab", 5, 0, PCRE2_DFA_SHORTEST, many, NULL, work, 100),
+         many);
   places("none", pcre2_dfa_match(c, (PCRE2_SPTR) "x", 1, 0, 0, many, NULL, work, 100), many);
-  places("partial", pcre2_dfa_match(c, (PCRE2_SPTR) "xa", 2, 0, PCRE2_PARTIAL_HARD, many, NULL, work, 100), many);
+  places("partial",
+         pcre2_dfa_match(c, (PCRE2_SPTR) "xa", 2, 0, PCRE2_PARTIAL_HARD, many, NULL, work, 100),
+         many);
   printf("reference %d, small %d, NULL %d, invalid UTF %d\n",
          pcre2_dfa_match(d, (PCRE2_SPTR) "aa", 2, 0, 0, m, NULL, work, 100),
          pcre2_dfa_match(c, (PCRE2_SPTR) "aa", 2, 0, 0, m, NULL, work, 19),
@@ -307,8 +401,10 @@ static void all_ends(void) {
          pcre2_dfa_match(u, (PCRE2_SPTR) "aa", 2, 0, 0, m, NULL, work, 100));
   size_t len;
   pcre2_dfa_match(c, (PCRE2_SPTR) "xaaab", 5, 0, 0, many, NULL, work, 100);
-  printf("by name %d, by number %d %d\n", pcre2_substring_length_byname(many, (PCRE2_SPTR) "n", &len),
-         pcre2_substring_length_bynumber(many, 2, &len), pcre2_substring_length_bynumber(many, 5, &len));
+  printf("by name %d, by number %d %d\n",
+         pcre2_substring_length_byname(many, (PCRE2_SPTR) "n", &len),
+         pcre2_substring_length_bynumber(many, 2, &len),
+         pcre2_substring_length_bynumber(many, 5, &len));
   pcre2_match_data_free(many);
   pcre2_match_data_free(m);
   pcre2_code_free(c);
@@ -317,7 +413,8 @@ static void all_ends(void) {
 }
 
 static void copies(void) {
-  pcre2_code *c = code("a(b)", 0, NULL), *d = pcre2_code_copy(c), *e = pcre2_code_copy_with_tables(c), *f[2] = {0};
+  pcre2_code *c = code("a(b)", 0, NULL), *d = pcre2_code_copy(c),
+             *e = pcre2_code_copy_with_tables(c), *f[2] = {0};
   pcre2_match_data *m = pcre2_match_data_create_from_pattern(d, NULL);
   const pcre2_code *both[] = {c, d};
   uint8_t *block;
@@ -331,24 +428,125 @@ static void copies(void) {
   find(f[1], "ab", 0, 0, m);
   pcre2_code_free(f[0]);
   pcre2_code_free(f[1]);
-  printf("bad %d %d %d\n", pcre2_serialize_decode(f, 0, block, NULL), pcre2_serialize_decode(NULL, 1, block, NULL),
-         pcre2_serialize_get_number_of_codes(NULL));
+  printf("bad %d %d %d\n", pcre2_serialize_decode(f, 0, block, NULL),
+         pcre2_serialize_decode(NULL, 1, block, NULL), pcre2_serialize_get_number_of_codes(NULL));
   block[0] ^= 1;
   printf("magic %d\n", pcre2_serialize_decode(f, 1, block, NULL));
   pcre2_serialize_free(block);
-  printf("bad %d %d\n", pcre2_serialize_encode(both, 0, &block, &len, NULL), pcre2_serialize_encode(NULL, 1, &block, &len, NULL));
+  printf("bad %d %d\n", pcre2_serialize_encode(both, 0, &block, &len, NULL),
+         pcre2_serialize_encode(NULL, 1, &block, &len, NULL));
   printf("copy of NULL %d\n", pcre2_code_copy(NULL) != NULL);
   pcre2_match_data_free(m);
   pcre2_code_free(d);
   pcre2_code_free(e);
 }
 
+static long blocks, took;
+
+static void *get(size_t n, void *data) {
+  ++*(long *)data;
+  took++;
+  return malloc(n);
+}
+
+static void give(void *block, void *data) {
+  if (block) --*(long *)data;
+  free(block);
+}
+
+/* Blocks of the caller's own functions, all of which are given back. */
+static void memory(void) {
+  pcre2_general_context *g = pcre2_general_context_create(get, give, &blocks),
+                        *h = pcre2_general_context_copy(g);
+  pcre2_compile_context *cc = pcre2_compile_context_create(h);
+  pcre2_match_context *mc = pcre2_match_context_create(g), *copy = pcre2_match_context_copy(mc);
+  pcre2_convert_context *cv = pcre2_convert_context_create(g);
+  pcre2_code *c = code("(a)(?<n>b)", 0, cc);
+  pcre2_match_data *m = pcre2_match_data_create_from_pattern(c, NULL),
+                   *n = pcre2_match_data_create(2, g);
+  const uint8_t *tables = pcre2_maketables(g);
+  PCRE2_UCHAR *text;
+  PCRE2_UCHAR **list;
+  size_t len;
+  find(c, "ab", 0, 0, m);
+  find(c, "ab", 0, PCRE2_COPY_MATCHED_SUBJECT, n);
+  printf("get %d\n", pcre2_substring_get_byname(m, (PCRE2_SPTR) "n", &text, &len));
+  printf("list %d\n", pcre2_substring_list_get(n, &list, NULL));
+  printf("glob %d %d %d %d\n", pcre2_set_glob_escape(cv, 'a'), pcre2_set_glob_escape(cv, 0),
+         pcre2_set_glob_separator(cv, 'a'), pcre2_set_glob_separator(cv, '.'));
+  pcre2_code_free(c); /* the match data stays */
+  printf("%zu\n", pcre2_get_ovector_pointer(m)[1]);
+  pcre2_substring_free(text);
+  pcre2_substring_list_free((PCRE2_SPTR *)list);
+  pcre2_maketables_free(g, tables);
+  pcre2_match_data_free(m);
+  pcre2_match_data_free(n);
+  pcre2_convert_context_free(cv);
+  pcre2_match_context_free(copy);
+  pcre2_match_context_free(mc);
+  pcre2_compile_context_free(cc);
+  pcre2_general_context_free(g);
+  pcre2_general_context_free(h);
+  printf("some blocks %d, left %ld\n", took > 10, blocks);
+}
+
+/* Match data that goes from code to code, and codes that are freed before it. */
+static void many_codes(void) {
+  pcre2_match_data *m[3];
+  pcre2_code *c[4];
+  for (int i = 0; i < 3; i++)
+    m[i] = pcre2_match_data_create(2, NULL);
+  for (int i = 0; i < 4; i++) {
+    char pattern[2] = {(char)('a' + i), 0};
+    c[i] = code(pattern, 0, NULL);
+  }
+  for (int turn = 0; turn < 24; turn++) {
+    int which = turn * 7 % 4;
+    if (c[which]) find(c[which], "abcd", 0, 0, m[turn % 3]);
+    if (turn > 12 && turn % 3 == 0) {
+      pcre2_code_free(c[turn % 4]);
+      c[turn % 4] = NULL;
+    }
+  }
+  for (int i = 0; i < 4; i++)
+    pcre2_code_free(c[i]);
+  for (int i = 0; i < 3; i++)
+    pcre2_match_data_free(m[i]);
+}
+
+/* A substitution of which the first match was found before. */
+static void matched(void) {
+  pcre2_code *c = code("b", 0, NULL);
+  pcre2_match_data *m = pcre2_match_data_create(2, NULL);
+  for (int i = 0; i < 2; i++) {
+    char out[32] = "";
+    size_t len = sizeof out;
+    const char *s = i ? "xyz" : "abab";
+    find(c, s, 0, 0, m);
+    int rc = pcre2_substitute(c, (PCRE2_SPTR)s, strlen(s), 0,
+                              PCRE2_SUBSTITUTE_MATCHED | PCRE2_SUBSTITUTE_GLOBAL, m, NULL,
+                              (PCRE2_SPTR) "<>", 2, (PCRE2_UCHAR *)out, &len);
+    printf("matched before: %d %s\n", rc, out);
+  }
+  size_t len = 0;
+  printf("without match data: %d\n",
+         pcre2_substitute(c, (PCRE2_SPTR) "b", 1, 0, PCRE2_SUBSTITUTE_MATCHED, NULL, NULL,
+                          (PCRE2_SPTR) "", 0, NULL, &len));
+  printf("no length: %d\n",
+         pcre2_substitute(c, (PCRE2_SPTR) "b", 1, 0, 0, NULL, NULL, NULL, 3, NULL, &len));
+  pcre2_match_data_free(m);
+  pcre2_code_free(c);
+}
+
 static void messages(void) {
   PCRE2_UCHAR text[200];
   static const int bad[] = {0, 99, -67, 1000};
-  for (int i = 0; i < 4; i++) printf("message %d: %d\n", bad[i], pcre2_get_error_message(bad[i], text, sizeof text));
-  for (int i = -66; i < 0; i++) printf("message %d: %d\n", i, pcre2_get_error_message(i, text, sizeof text) > 0);
-  for (int i = 100; i < 200; i++) printf("message %d: %d\n", i, pcre2_get_error_message(i, text, sizeof text) > 0);
+  for (int i = 0; i < 4; i++)
+    printf("message %d: %d\n", bad[i], pcre2_get_error_message(bad[i], text, sizeof text));
+  for (int i = -66; i < 0; i++)
+    printf("message %d: %d\n", i, pcre2_get_error_message(i, text, sizeof text) > 0);
+  for (int i = 100; i < 200; i++)
+    printf("message %d: %d\n", i, pcre2_get_error_message(i, text, sizeof text) > 0);
   printf("short %d\n", pcre2_get_error_message(-1, text, 4));
   printf("no room %d\n", pcre2_get_error_message(-1, text, 0));
 }
@@ -366,6 +564,9 @@ int main(void) {
   substituting();
   all_ends();
   copies();
+  memory();
+  many_codes();
+  matched();
   messages();
   return 0;
 }

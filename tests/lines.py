@@ -30,13 +30,15 @@ PATTERNS = [
     r"\g{1}(a)", r"(?1)(a)", r"(?i:f)oo", r"[a-f0-9]{4}", r"[^ ]+=[^ ]+", r"\d+(?=\s|$)", r"(?m)^foo", r"(?U)a+", r"\cA",
     r"\o{101}", r"\e", r"[\w.]+@[\w.]+", r"(?:(?:a|b)*)*c", r"\Gfoo", r"(?(DEFINE)(?<d>\d))(?&d)+"]
 
+LEVELS = "INFO", "WARN", "ERROR", "error", "debug"
+TEXTS = (
+    "GET /foo/bar?key=value HTTP/1.1 from 192.168.0.7", "foo bar foobar barfoo", "Привет мир, ПРИВЕТ",
+    "αβγ ΑΒΓ word word", "straße STRASSE Straße naïve café", 'aaab aab (a (b) c) "quoted text"',
+    "日本語 the the mail a.b@c.org", "   ", "", "x\ta\x01b \x1b[0m deadbeef")
 LOG = "\n".join(
     f"{y}-{m:02}-{d:02} 10:{d:02}:01 {level} user{d} {text}"
     for y, m, d, level, text in (
-        (2020 + i % 5, 1 + i % 12, 1 + i % 28, ("INFO", "WARN", "ERROR", "error", "debug")[i % 5], (
-            "GET /foo/bar?key=value HTTP/1.1 from 192.168.0.7", "foo bar foobar barfoo", "Привет мир, ПРИВЕТ", "αβγ ΑΒΓ word word",
-            "straße STRASSE Straße naïve café", "aaab aab (a (b) c) \"quoted text\"", "日本語 the the mail a.b@c.org", "   ", "",
-            "x\ta\x01b \x1b[0m deadbeef")[i % 10]) for i in range(300))) + "\n"
+        (2020 + i % 5, 1 + i % 12, 1 + i % 28, LEVELS[i % 5], TEXTS[i % 10]) for i in range(300))) + "\n"
 CODE = "\n".join(
     ("int main(void) {", "  return foo(bar, baz);", "}", "", "/* foo\n   bar */", "static int foobar[4] = {1, 22, 333};",
      "line foo", "  if (a == b && (c || d)) return foo\\bar;")[i % 8] for i in range(200)) + "\n"
@@ -56,13 +58,16 @@ def make_data(folder):
 def jobs_of(kind, folder):
     locales = ("C", "C.UTF-8")
     if kind == "grep":
-        words = [["grep", o, "--", p, "log.txt", "code.c", "bad.txt", "crlf.txt"] for p in PATTERNS for o in ("-nP", "-coP", "-iwP", "-xvcP")]
+        files, options = ["log.txt", "code.c", "bad.txt", "crlf.txt"], ("-nP", "-coP", "-iwP", "-xvcP")
+        words = [["grep", o, "--", p, *files] for p in PATTERNS for o in options]
         return [(w, folder, loc) for w in words for loc in locales]
     if kind == "git":
-        words = [["git", "grep", *o, "-e", p, "--", "docs", "crates/pat_tree", "README.md"] for p in PATTERNS for o in (["-nP"], ["-coP"], ["-iwP"], ["-P", "--column"])]
+        places, options = ["docs", "crates/pat_tree", "README.md"], (["-nP"], ["-coP"], ["-iwP"], ["-P", "--column"])
+        words = [["git", "grep", *o, "-e", p, "--", *places] for p in PATTERNS for o in options]
         return [(w, TOP, loc) for w in words for loc in locales]
     options = ["-n"], ["-co"], ["-iw"], ["-xv"], ["-u", "-o1"], ["-M", "-n"], ["-F", "-w"], ["-Ncrlf", "-n"]
-    words = [[PCRE2GREP, "--no-jit", *o, "-e", p, "log.txt", "code.c", "crlf.txt"] for p in PATTERNS for o in options]
+    files = ["log.txt", "code.c", "crlf.txt"]
+    words = [[PCRE2GREP, "--no-jit", *o, "-e", p, *files] for p in PATTERNS for o in options]
     return [(w, folder, "C.UTF-8") for w in words]
 
 
@@ -84,10 +89,12 @@ def compare(kind, folder):
     with ThreadPoolExecutor(int(os.environ.get("LANES", "2"))) as lanes:
         for job, (a, told_a), (b, told_b) in lanes.map(lambda job: (job, run(job, False), run(job, True)), jobs):
             left_out = LEFT_OUT in told_b
-            what = "left out" if left_out else "other output or status" if a != b else "other messages" if told_a != told_b else "same"
+            other = "other output or status" if a != b else "other messages" if told_a != told_b else "same"
+            what = "left out" if left_out else other
             counts[what] += 1
             if what.startswith("other"):
-                print(what, job[2], " ".join(job[0]), "|", a[0], len(a[1]), told_a[:90], "|", b[0], len(b[1]), told_b[:90])
+                told = a[0], len(a[1]), told_a[:90], "|", b[0], len(b[1]), told_b[:90]
+                print(what, job[2], " ".join(job[0]), "|", *told)
     print(f"{kind}: {len(jobs)} lines:", ", ".join(f"{n} {what}" for what, n in counts.items()))
 
 

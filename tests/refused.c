@@ -1,5 +1,5 @@
-/* Refuses each allocation of a program once. Every call must answer the error of its page, and nothing may be lost.
-   Also run whole under valgrind and sanitizers (tests/run). */
+/* Refuses each allocation of a program once. Every call must answer the error of its page, and
+   nothing may be lost. Also run whole under valgrind and sanitizers (tests/run). */
 #define PCRE2_CODE_UNIT_WIDTH 8
 #include "../c/pcre2.h"
 
@@ -76,11 +76,13 @@ static void searches(pcre2_code *c, pcre2_match_data *m, pcre2_match_context *wi
     if (rc < 0) break;
     texts(m);
   }
-  rc = pcre2_substitute(c, (PCRE2_SPTR)subject, n, 0, PCRE2_SUBSTITUTE_GLOBAL | PCRE2_SUBSTITUTE_UNSET_EMPTY, NULL,
-                        with, (PCRE2_SPTR) "<$0>", 4, (PCRE2_UCHAR *)out, &room);
+  rc = pcre2_substitute(c, (PCRE2_SPTR)subject, n, 0,
+                        PCRE2_SUBSTITUTE_GLOBAL | PCRE2_SUBSTITUTE_UNSET_EMPTY, NULL, with,
+                        (PCRE2_SPTR) "<$0>", 4, (PCRE2_UCHAR *)out, &room);
   want("substitute", rc, PCRE2_ERROR_NOMEMORY);
   rc = pcre2_dfa_match(c, (PCRE2_SPTR)subject, n, 0, 0, m, with, work, 100);
-  want("dfa_match", rc, rc == PCRE2_ERROR_NOMATCH || rc == PCRE2_ERROR_DFA_UITEM ? rc : PCRE2_ERROR_NOMEMORY);
+  want("dfa_match", rc,
+       rc == PCRE2_ERROR_NOMATCH || rc == PCRE2_ERROR_DFA_UITEM ? rc : PCRE2_ERROR_NOMEMORY);
 }
 
 static void copies(const pcre2_code *c) {
@@ -98,8 +100,10 @@ static void copies(const pcre2_code *c) {
 }
 
 static void all(void) {
-  static const char *const patterns[] = {"(?<y>\\d{4})-(?<m>\\d\\d)", "(a|b)*c", "(", "(?<=x)y|\\bfoo\\b",
-                                         "^(?:(\\w+)\\s)+$", "\\p{L}+(*MARK:z)", "[[:alpha:]]{2,5}?(.)\\1"};
+  static const char *const patterns[] = {
+      "(?<y>\\d{4})-(?<m>\\d\\d)", "(a|b)*c",          "(",
+      "(?<=x)y|\\bfoo\\b",         "^(?:(\\w+)\\s)+$", "\\p{L}+(*MARK:z)",
+      "[[:alpha:]]{2,5}?(.)\\1"};
   pcre2_general_context *g = pcre2_general_context_create(NULL, NULL, NULL);
   pcre2_compile_context *cc = pcre2_compile_context_create(g);
   pcre2_match_context *mc = pcre2_match_context_create(g);
@@ -110,7 +114,8 @@ static void all(void) {
     pcre2_code *c = pcre2_compile((PCRE2_SPTR)patterns[i / 2], PCRE2_ZERO_TERMINATED,
                                   i % 2 ? PCRE2_UTF | PCRE2_UCP : 0, &error, &at, cc);
     if (!c) {
-      want("compile", -error, error == PCRE2_ERROR_MISSING_CLOSING_PARENTHESIS ? -error : -PCRE2_ERROR_HEAP_FAILED);
+      want("compile", -error,
+           error == PCRE2_ERROR_MISSING_CLOSING_PARENTHESIS ? -error : -PCRE2_ERROR_HEAP_FAILED);
       continue;
     }
     pcre2_match_data *m = pcre2_match_data_create_from_pattern(c, g);

@@ -1,5 +1,5 @@
-/* One code is matched from several threads, each with match data of its own: each answer is looked at, and the
-   nanoseconds of a match are told for 1, 2 and 4 threads. */
+/* One code is matched from several threads, each with match data of its own: each answer is looked
+   at, and the nanoseconds of a match are told for 1, 2 and 4 threads. */
 #define PCRE2_CODE_UNIT_WIDTH 8
 #include "../c/pcre2.h"
 
@@ -38,7 +38,8 @@ int main(void) {
   int error;
   size_t at;
   long all = 0;
-  code = pcre2_compile((PCRE2_SPTR) "key(\\d+)=(\\d+)", PCRE2_ZERO_TERMINATED, 0, &error, &at, NULL);
+  code =
+      pcre2_compile((PCRE2_SPTR) "key(\\d+)=(\\d+)", PCRE2_ZERO_TERMINATED, 0, &error, &at, NULL);
   for (int n = 1; n <= 4; n *= 2) {
     pthread_t threads[4];
     long args[4];

@@ -1,5 +1,5 @@
-/* The times of compiling and of short matches, for one library: tests/run gives those of two side by side. With the
-   word `fresh` each match has match data of its own. */
+/* The times of compiling and of short matches, for one library: tests/run gives those of two side
+   by side. With the word `fresh` each match has match data of its own. */
 #define PCRE2_CODE_UNIT_WIDTH 8
 #include "../c/pcre2.h"
 
@@ -20,15 +20,17 @@ static pcre2_code *compile(const char *pattern) {
 }
 
 int main(int argc, char **argv) {
-  static const char *const rows[][2] = {{"^/api/v(\\d+)/(\\w+)$", "/api/v12/users"},
-                                        {"(?i)error|fail", "all is well in this line of text"},
-                                        {"^(?:\\d{1,3}\\.){3}\\d{1,3}$", "192.168.100.254"},
-                                        {"foo.*bar", "xx foo yyy zzz bar"},
-                                        {"(\\w+)@(\\w+)\\.com", "write to someone@example.com today"}};
+  static const char *const rows[][2] = {
+      {"^/api/v(\\d+)/(\\w+)$", "/api/v12/users"},
+      {"(?i)error|fail", "all is well in this line of text"},
+      {"^(?:\\d{1,3}\\.){3}\\d{1,3}$", "192.168.100.254"},
+      {"foo.*bar", "xx foo yyy zzz bar"},
+      {"(\\w+)@(\\w+)\\.com", "write to someone@example.com today"}};
   int fresh = argc > 1 && !strcmp(argv[1], "fresh"), turns = fresh ? 100000 : 400000;
   for (size_t i = 0; i < sizeof rows / sizeof *rows; i++) {
     double begin = now();
-    for (int k = 0; k < 10000; k++) pcre2_code_free(compile(rows[i][0]));
+    for (int k = 0; k < 10000; k++)
+      pcre2_code_free(compile(rows[i][0]));
     double compiling = (now() - begin) / 10000;
     pcre2_code *c = compile(rows[i][0]);
     pcre2_match_data *m = pcre2_match_data_create_from_pattern(c, NULL);
