@@ -29,14 +29,14 @@ use Rattle.grep_output.proofs.Extends.{extends}
 use Rattle.grep_core.specs.Turns.{course_of, Halts}
 use Rattle.grep_core.specs.Work.{Work, Progress}
 use Rattle.grep_core.specs.Work as between
-use Rattle.grep_core.specs.WholeScans.{IsJob, BeginsWith, ScansInput, ScansTo, StopsIn, StopsSoon}
+use Rattle.grep_core.specs.WholeScans.{IsJob, BeginsWith, LeavesRest, ScansInput, ScansTo, scan_of, StopsIn, StopsSoon}
 use Rattle.grep_core.specs.Ahead.{TakesRows, TakesAhead, HaltsAhead}
 use Rattle.grep_core.proofs.ScansRows.{stood-begins}
 use Rattle.grep_core.proofs.ScansTexts.{breaks-out, breaks-ext}
 use Rattle.grep_core.specs.Underway.{tries, Standing, Keeps}
 use Rattle.grep_core.proofs.ScansTaken.{tries-more, stops-in, standing-line, line-given}
 use Rattle.grep_core.proofs.ScansEnd.{left, full_of, begins-scan, begins-tried, goes-of}
-use Rattle.grep_core.proofs.ScansSent.{soon-part}
+use Rattle.grep_core.proofs.ScansSent.{rest-part, soon-part}
 use Rattle.grep_core.proofs.ScansLoop.{keeps-more, gave}
 
 -- any source
@@ -211,6 +211,12 @@ module _ (work : Work) (most : Option ℕ) (treated : Treatment) (s0 : State) (b
   cut-refused Memory h = tt
   cut-refused TooManyErrors h = tt
 
+  cut-rest : (stop : Stop) → let x : Scan = scan_of work treated s0 (lines work.plan begins.heard) in LeavesRest {T = Ended} x.ended x.within before now (Err stop)
+  unfolding begins begins-before
+  cut-rest SinkFault = rest-part work most treated s0 before now f old.course old.state out0 out out1 err0 err standing f0 job begins-before
+  cut-rest Memory = tt
+  cut-rest TooManyErrors = tt
+
   abbrev Input : State → Kept → ℕ → Type 0
   Input s said selected = ScansInput work treated (between.standing before s0 (printed out0 err0)) (between.standing now s (printed out1 said)) selected (Err stop)
 
@@ -231,6 +237,6 @@ module _ (work : Work) (most : Option ℕ) (treated : Treatment) (s0 : State) (b
         scans = subst (λ x. ScansTo work treated s0 x old.course.selected old.state (printed out0 err0) (printed out1 err) (Err stop)) (sym is)
             (cut-scans all stop halts.halts (breaks-ext work.plan work.name work.show s0.has_shown all a ts out0 out1 err0 err stop ext cut-breaks)
             (stops-in work treated s0 (tries work.plan work.patterns rows ++ ext.rest) old.course.selected refl tried standing.taken));
-        rest = tt;
+        rest = cut-rest stop;
         refused = cut-refused stop halts.halts;
       })))

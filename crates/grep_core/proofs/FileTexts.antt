@@ -173,7 +173,9 @@ module _ (work : Work) (s : State) where
   -- what it leaves of the input
   rest-end : (selected : ℕ) (x : Scan) (before after : Told) (came : Result Ended Stop) → LeavesRest x.ended x.within before after came → LeavesRest x.ended x.within before after (end_by selected came)
   rest-end selected x before after (Ok ended) h = h
-  rest-end selected x before after (Err stop) h = tt
+  rest-end selected x before after (Err SinkFault) h = h
+  rest-end selected x before after (Err TooManyErrors) h = tt
+  rest-end selected x before after (Err Memory) h = tt
 
   -- where a write was refused in it
   refused-end : (selected : ℕ) (fact : Type 0) (came : Result Ended Stop) → WhereRefused came fact → WhereRefused (end_by selected came) fact
@@ -328,10 +330,15 @@ module _ {plan : GrepPlan} {patterns : List Pattern} {name : List ℕ} {s : Stat
 
   -- a part of it was written, and this counts
   stopped : (found : Scan) {new : Printed} (stop : Stop) → stop ≢ TooManyErrors → Breaks (text_of found).out (text_of found).err old new (stop ≡ SinkFault)
-      → (s_new ≡ (text_of found).state) ⊎ CountsPart on s found s_new → tells_so treated (text_of found) found new (Err stop)
-  stopped found SinkFault other b left = (b, left, tt)
-  stopped found Memory other b left = (b, left, tt)
-  stopped found TooManyErrors other b left = absurd (other refl)
+      → (s_new ≡ (text_of found).state) ⊎ CountsPart on s found s_new → LeavesRest {T = FileEnd} found.ended found.within before after (Err stop) → tells_so treated (text_of found) found new (Err stop)
+  stopped found SinkFault other b left rest = (b, left, rest)
+  stopped found Memory other b left rest = (b, left, tt)
+  stopped found TooManyErrors other b left rest = absurd (other refl)
+
+  -- after the scan a write was refused
+  rest-refused : (found : Scan) (fault : IoError) → (found.ended ≡ early → TakesLittlePast found.within before after) → LeavesRest {T = FileEnd} found.ended found.within before after (Err (stop_of fault))
+  rest-refused found io.Failed rest = rest
+  rest-refused found io.Memory rest = tt
 
   -- what is told of the input as it is scanned is told of it as it is treated
   treated-so : (new : Printed) (heard : Input) (result : Result FileEnd Stop)
@@ -419,7 +426,7 @@ module _ {plan : GrepPlan} {patterns : List Pattern} {name : List ℕ} {s : Stat
         stopped found (stop_of fault) (stop-other fault)
         (subst (λ x. Breaks x (text_of found).err old new (stop_of fault ≡ SinkFault)) (out-is found scans)
         (subst (λ x. Breaks (shown_of found ++ end_out plan name md tells end.selected) x old new (stop_of fault ≡ SinkFault)) (said-is found scans) (wrote-breaks _ _ _ _ scans.0.wrote (stop_of fault ≡ SinkFault) next)))
-        (inl scans.0.state))
+        (inl scans.0.state) (rest-refused found fault rest))
         (λ found numbered scans rest refused. all-shown new.out found (end_out plan name md tells end.selected) numbered scans.0.wrote.out next.out rest fault))
 
   -- where there were too many match errors, the message that says so
@@ -450,7 +457,7 @@ module _ {plan : GrepPlan} {patterns : List Pattern} {name : List ℕ} {s : Stat
         (subst (λ x. Breaks x (text_of found).err old (printed mid.out err_new) (stop_of fault ≡ SinkFault)) (many-out found scans.1)
         (subst (λ x. Breaks (shown_of found ++ []) x old (printed mid.out err_new) (stop_of fault ≡ SinkFault)) (many-said found scans.1)
         (wrote-breaks _ _ _ _ scans.0.wrote (stop_of fault ≡ SinkFault) (breaks-err [] _ mid.out mid.err err_new fault w))))
-        (inl scans.0.state))
+        (inl scans.0.state) (rest-refused found fault (λ e. absurd (many-early (sym scans.1 ∙ e)))))
         (λ found numbered scans rest refused. all-shown mid.out found [] numbered scans.0.wrote.out (prefix-none mid.out.held []) (λ e. absurd (many-early (sym scans.1 ∙ e))) fault))
 
   -- the scan was cut off
@@ -459,10 +466,10 @@ module _ {plan : GrepPlan} {patterns : List Pattern} {name : List ℕ} {s : Stat
   longer found early part = prefix-front _ _ _ _ part
   longer found too_many_errors part = part
 
-  cut-off : (found : Scan) (stop : Stop) → stop ≢ TooManyErrors → ScansSo on s found s_new old mid (Err stop) → tells_so treated (text_of found) found mid (Err stop)
-  cut-off found SinkFault other b = (record { out = longer found found.ended b.0.out; err = prefix-front _ _ _ _ b.0.err; cause = b.0.cause; steady = b.0.steady }, inr b.1, tt)
-  cut-off found Memory other b = (record { out = longer found found.ended b.0.out; err = prefix-front _ _ _ _ b.0.err; cause = b.0.cause; steady = b.0.steady }, inr b.1, tt)
-  cut-off found TooManyErrors other b = absurd (other refl)
+  cut-off : (found : Scan) (stop : Stop) → stop ≢ TooManyErrors → ScansSo on s found s_new old mid (Err stop) → LeavesRest {T = FileEnd} found.ended found.within before after (Err stop) → tells_so treated (text_of found) found mid (Err stop)
+  cut-off found SinkFault other b rest = (record { out = longer found found.ended b.0.out; err = prefix-front _ _ _ _ b.0.err; cause = b.0.cause; steady = b.0.steady }, inr b.1, rest)
+  cut-off found Memory other b rest = (record { out = longer found found.ended b.0.out; err = prefix-front _ _ _ _ b.0.err; cause = b.0.cause; steady = b.0.steady }, inr b.1, tt)
+  cut-off found TooManyErrors other b rest = absurd (other refl)
 
   cut-soon : (stop : Stop) → stop ≢ TooManyErrors → (found : Rows) → AreNumbered 1 found.rows
       → WhereRefused {T = FileEnd} (Err stop) (StopsSoon on treated s found before after old.out mid.out)
@@ -472,7 +479,7 @@ module _ {plan : GrepPlan} {patterns : List Pattern} {name : List ℕ} {s : Stat
   cut-soon TooManyErrors other found numbered soon = absurd (other refl)
 
   pub greps-cut : (stop : Stop) → met ≡ Err stop → stop ≢ TooManyErrors → Greps plan patterns name (standing before s old) (standing after s_new mid) (Err stop)
-  greps-cut stop is other = grep-by (Err stop) is (Err stop) (λ found scans rest. cut-off found stop other scans) (λ found numbered scans rest refused. cut-soon stop other found numbered refused)
+  greps-cut stop is other = grep-by (Err stop) is (Err stop) (λ found scans rest. cut-off found stop other scans rest) (λ found numbered scans rest refused. cut-soon stop other found numbered refused)
 
 pub fault-other : SinkFault ≢ TooManyErrors
 fault-other e = cc

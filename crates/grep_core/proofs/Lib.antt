@@ -1,6 +1,7 @@
 pub mod ScansRows
 pub mod ScansTexts
 pub mod ScansTaken
+pub mod Resting
 pub mod ScansEnd
 pub mod ScansSent
 pub mod ScansLoop

@@ -31,6 +31,7 @@ use Rattle.grep_core.specs.Turns.{course_of, LeavesLine, TakesLine, TakesLast, i
 use Rattle.grep_core.specs.Work.{Work, progress, fed, position}
 use Rattle.grep_core.specs.Work as between
 use Rattle.grep_core.specs.WholeScans.{Stood, Scans, StopsIn, StopsSoon, ScansTo, ScansInput, scan_of, left_by, IsJob, BeginsWith, EndsWith, LeavesRest}
+use Rattle.grep_output.specs.LittlePast.{TakesLittlePast}
 use Rattle.grep_output.specs.Refused.{GrewBy, WhereRefused}
 use Rattle.tool_io.specs.Prints.{Wrote, Breaks}
 use Rattle.grep_output.proofs.Reached.{out-broken}
@@ -38,6 +39,7 @@ use Rattle.grep_output.proofs.ScanEnds.{count, count-more, count-one, count-none
 use Rattle.grep_output.proofs.Extends.{TextsBegin, Goes, LastError, full, whole-is, whole-out, broken-is, broken_out, row-broken, row-extends, extends, said-more, error-unselected}
 use Rattle.grep_core.proofs.ScansRows.{stood-moves, stood-begins, stood-stops, stood-little, begins-numbered}
 use Rattle.grep_core.proofs.ScansTexts.{breaks-more, breaks-memory, breaks-ext, grew-part}
+use Rattle.grep_core.proofs.Resting.{rest-below}
 use Rattle.tool_io.proofs.Printing.{wrote-more}
 use Rattle.grep_core.specs.Underway.{tries, Standing}
 use Rattle.grep_core.proofs.ScansTaken.{tries-more, rows-tried, errors-more, stops-in, stops-error, next-stood, next-kind, next-max, next-whole, next-numbered}
@@ -228,13 +230,14 @@ module _ (work : Work) (most : Option ℕ) (treated : Treatment) (s0 : State) wh
         numbered-row = subst (λ l. AreNumbered 1 (rows_of l)) all-tries (begins-tried before after (standing.given ++ row ∷ []) begins-row)
 
         input-row : (stop : Stop) → ScansTo work treated s0 (full_of finish (us ++ t ∷ vs)) c1.selected s1 (printed out0 err0) (printed out1 err1) (Err stop)
+            → (let x : Scan = scan_in (lines work.plan begins-row.heard) in LeavesRest {T = Ended} x.ended x.within before after (Err stop))
             → WhereRefused {T = Ended} (Err stop) (StopsSoon work treated s0 (lines work.plan begins-row.heard) before after out0 out1) → Input (Err stop)
-        input-row stop scans soon = record {
+        input-row stop scans rest soon = record {
           heard = begins-row.heard;
           hears = begins-row.hears;
           treats = begins-row.treats;
           scans = subst (λ x. ScansTo work treated s0 x c1.selected s1 (printed out0 err0) (printed out1 err1) (Err stop)) (sym scan-row) scans;
-          rest = tt;
+          rest = rest;
           refused = soon;
         }
 
@@ -274,7 +277,7 @@ module _ (work : Work) (most : Option ℕ) (treated : Treatment) (s0 : State) wh
               state = last.state ∙ state;
             } in
             input-row TooManyErrors
-            (subst (λ x. ScansTo work treated s0 x c1.selected s1 (printed out0 err0) (printed out1 err1) (Err TooManyErrors)) (sym same) (scans, refl)) tt
+            (subst (λ x. ScansTo work treated s0 x c1.selected s1 (printed out0 err0) (printed out1 err1) (Err TooManyErrors)) (sym same) (scans, refl)) tt tt
 
         few-next : is_last s t ≡ false → count has_error (us ++ t ∷ []) < left
         few-next e =
@@ -334,6 +337,15 @@ module _ (work : Work) (most : Option ℕ) (treated : Treatment) (s0 : State) wh
             (next-numbered work most treated s0 before now after f g row c s c1 s1 out0 out out1 err0 err err1 standing gives) h.0 h.1)
             leaves.1
 
+        row-little : TakesLittlePast (standing.given ++ row ∷ []) before after
+        row-little =
+            stood-little work.plan treated before after g (standing.given ++ row ∷ [])
+            (next-stood work most treated s0 before now after f g row c s c1 s1 out0 out out1 err0 err err1 standing gives) gives.cuts.near
+            (next-whole work most treated s0 before now after f g row c s c1 s1 out0 out out1 err0 err err1 standing gives)
+
+        row-below : IsBelow (greatest_selected work.plan treated) (count (is_selected work.plan) us)
+        row-below = subst (λ m. IsBelow m (count (is_selected work.plan) us)) job.most_is standing.below
+
         -- what is shown of the lines before it was written
         row-soon : Breaks (cond (is_last s t) [] row_text) (error_message work.name t) (printed out err) (printed out1 err1) (SinkFault ≡ SinkFault) → StopsSoon work treated s0 (lines work.plan begins-row.heard) before after out0 out1
         row-soon breaks = record {
@@ -343,17 +355,18 @@ module _ (work : Work) (most : Option ℕ) (treated : Treatment) (s0 : State) wh
           all = begins-row.all;
           one = omega arith;
           grew = subst (λ l. GrewBy l out0 out1) (sym (given-shown before now f c s out0 out err0 err standing)) (grew-part so_far (cond (is_last s t) [] row_text) out0.held out.held out1.held standing.taken.wrote.out breaks.out);
-          little = stood-little work.plan treated before after g (standing.given ++ row ∷ [])
-              (next-stood work most treated s0 before now after f g row c s c1 s1 out0 out out1 err0 err err1 standing gives) gives.cuts.near
-              (next-whole work most treated s0 before now after f g row c s c1 s1 out0 out out1 err0 err err1 standing gives);
-          below = λ none. subst (λ m. IsBelow m (count (is_selected work.plan) us)) job.most_is standing.below;
+          little = row-little;
+          below = λ none. row-below;
         }
+
+        row-rest : (let x : Scan = scan_in (lines work.plan begins-row.heard) in x.ended ≡ early → TakesLittlePast x.within before after)
+        row-rest = rest-below work treated s0 (lines work.plan begins-row.heard) standing.given (row ∷ []) begins-row.more before after begins-row.all (omega arith) row-below row-little
 
         -- it couldn't be taken
         pub scans-row : (stop : Stop) → TakesLine work most t (progress c s (printed out err)) (progress c1 s1 (printed out1 err1)) (Err stop) → Input (Err stop)
-        scans-row SinkFault takes = input-row SinkFault (next-breaks SinkFault takes.0, next-stops takes.1) (row-soon takes.0)
+        scans-row SinkFault takes = input-row SinkFault (next-breaks SinkFault takes.0, next-stops takes.1) row-rest (row-soon takes.0)
         scans-row TooManyErrors takes = scans-last takes
-        scans-row Memory takes = input-row Memory (next-breaks Memory takes.0, next-stops takes.1) tt
+        scans-row Memory takes = input-row Memory (next-breaks Memory takes.0, next-stops takes.1) tt tt
 
       -- a turn that stops
       pub scans-stops : (stop : Stop) → Turns work most (position (fed f now) (progress c s (printed out err))) (position (fed g after) (progress c1 s1 (printed out1 err1))) (Err stop) → Input (Err stop)

@@ -11,7 +11,8 @@ use Rattle.grep_core.specs.declared.scan.Course.{Course}
 use Rattle.grep_output.specs.declared.state.State.{State}
 use Rattle.grep_match.specs.Matches.{Tried, is_selected}
 use Rattle.grep_output.specs.Lines.{lines}
-use Rattle.grep_output.specs.Scans.{Scan, IsBelow}
+use Rattle.grep_output.specs.Scans.{Scan, IsBelow, early}
+use Rattle.grep_output.specs.Shows.{greatest_selected}
 use Rattle.grep_output.specs.Messages.{error_message}
 use Rattle.grep_output.specs.InputText.{shown_out}
 use Rattle.grep_output.specs.Course.{scan_so_far}
@@ -20,7 +21,7 @@ use Rattle.grep_output.specs.LittlePast.{TakesLittlePast}
 use Rattle.grep_output.specs.Refused.{GrewBy, WhereRefused}
 use Rattle.grep_core.specs.Work.{Work}
 use Rattle.grep_core.specs.Work as between
-use Rattle.grep_core.specs.WholeScans.{StopsIn, StopsSoon, ScansInput, ScansTo, IsJob, BeginsWith}
+use Rattle.grep_core.specs.WholeScans.{StopsIn, StopsSoon, ScansInput, ScansTo, scan_of, IsJob, BeginsWith, LeavesRest}
 use Rattle.tool_io.specs.Prints.{Wrote, Breaks}
 use Rattle.tool_io.specs.Printed.{printed}
 use Rattle.tool_io.specs.Writes.{WritesAll}
@@ -30,6 +31,7 @@ use Rattle.grep_core.proofs.ScansRows.{stood-begins, stood-little}
 use Rattle.grep_core.proofs.ScansTexts.{wrote-out, breaks-out, breaks-ext, grew-part}
 use Rattle.grep_core.specs.Underway.{tries, Standing}
 use Rattle.grep_core.proofs.ScansTaken.{stops-in}
+use Rattle.grep_core.proofs.Resting.{rest-below}
 use Rattle.grep_core.proofs.ScansEnd.{left, full_of, begins-scan, begins-tried, goes-of, given-shown}
 
 module _ (work : Work) (most : Option ℕ) (treated : Treatment) (s0 : State) (before now : Told) (f : Feed) (c : Course) (s : State) (out0 out out1 err0 err : Kept)
@@ -68,9 +70,10 @@ module _ (work : Work) (most : Option ℕ) (treated : Treatment) (s0 : State) (b
     unsent : (stop : Stop) → Halts [] out out1 stop
         → ((x : Scan) → Breaks (shown_out work.plan work.name work.show s0.has_shown x) (flat_map (error_message work.name) x.tried) (printed out0 err0) (printed out1 err) (stop ≡ SinkFault) × StopsIn work treated s0 x c.selected s
         → ScansTo work treated s0 x c.selected s (printed out0 err0) (printed out1 err) (Err stop))
+        → ((begins : BeginsWith work.plan treated before now standing.given) → let x : Scan = scan_of work treated s0 (lines work.plan begins.heard) in LeavesRest {T = Ended} x.ended x.within before now (Err stop))
         → ((begins : BeginsWith work.plan treated before now standing.given) → WhereRefused {T = Ended} (Err stop) (StopsSoon work treated s0 (lines work.plan begins.heard) before now out0 out1))
         → ScansInput work treated (between.standing before s0 (printed out0 err0)) (between.standing now s (printed out1 err)) c.selected (Err stop)
-    unsent stop halts to soon =
+    unsent stop halts to rest soon =
         let begins = stood-begins work.plan treated before now f standing.given standing.kind standing.max standing.stood in
         let finish = (lines work.plan begins.heard).finish in
         let vs = tries work.plan work.patterns begins.more in
@@ -84,9 +87,23 @@ module _ (work : Work) (most : Option ℕ) (treated : Treatment) (s0 : State) (b
           treats = begins.treats;
           scans = subst (λ x. ScansTo work treated s0 x c.selected s (printed out0 err0) (printed out1 err) (Err stop)) (sym is)
               (to all (breaks-ext work.plan work.name work.show s0.has_shown all a us out0 out1 err0 err stop ext breaks, stops-in work treated s0 ext.rest c.selected refl ext.tried_is standing.taken));
-          rest = tt;
+          rest = rest begins;
           refused = soon begins;
         }
+
+    given-little : TakesLittlePast (standing.given ++ []) before now
+    given-little = subst (λ l. TakesLittlePast l before now) (sym (append-nil standing.given)) (stood-little work.plan treated before now f standing.given standing.stood standing.near standing.whole)
+
+    given-below : IsBelow (greatest_selected work.plan treated) (count (is_selected work.plan) us)
+    given-below = subst (λ m. IsBelow m (count (is_selected work.plan) us)) job.most_is standing.below
+
+    given-all : (begins : BeginsWith work.plan treated before now standing.given) → (lines work.plan begins.heard).rows ≡ (standing.given ++ []) ++ begins.more
+    given-all begins = begins.all ∙ ap (λ l. l ++ begins.more) (sym (append-nil standing.given))
+
+    -- little past the lines that the scan has within it was taken
+    pub rest-part : (begins : BeginsWith work.plan treated before now standing.given) → (scan_of work treated s0 (lines work.plan begins.heard)).ended ≡ early
+        → TakesLittlePast (scan_of work treated s0 (lines work.plan begins.heard)).within before now
+    rest-part begins = rest-below work treated s0 (lines work.plan begins.heard) standing.given [] begins.more before now (given-all begins) (omega arith) given-below given-little
 
     -- a part of a text was written
     pub soon-part : (text : List ℕ) → AppendsPrefix out.held out1.held text → (begins : BeginsWith work.plan treated before now standing.given) → StopsSoon work treated s0 (lines work.plan begins.heard) before now out0 out1
@@ -94,15 +111,15 @@ module _ (work : Work) (most : Option ℕ) (treated : Treatment) (s0 : State) (b
       given = standing.given;
       next = [];
       more = begins.more;
-      all = begins.all ∙ ap (λ l. l ++ begins.more) (sym (append-nil standing.given));
+      all = given-all begins;
       one = omega arith;
       grew = subst (λ l. GrewBy l out0 out1) (sym (given-shown work most treated s0 f0 job before now f c s out0 out err0 err standing)) (grew-part a text out0.held out.held out1.held standing.taken.wrote.out part);
-      little = subst (λ l. TakesLittlePast l before now) (sym (append-nil standing.given)) (stood-little work.plan treated before now f standing.given standing.stood standing.near standing.whole);
-      below = λ none. subst (λ m. IsBelow m (count (is_selected work.plan) us)) job.most_is standing.below;
+      little = given-little;
+      below = λ none. given-below;
     }
 
     -- it was refused: a part of the scan was written
     pub scans-unsent : (stop : Stop) → Halts [] out out1 stop → ScansInput work treated (between.standing before s0 (printed out0 err0)) (between.standing now s (printed out1 err)) c.selected (Err stop)
-    scans-unsent SinkFault halts = unsent SinkFault halts (λ x both. both) (soon-part [] halts.0)
-    scans-unsent Memory halts = unsent Memory halts (λ x both. both) (λ begins. tt)
+    scans-unsent SinkFault halts = unsent SinkFault halts (λ x both. both) rest-part (soon-part [] halts.0)
+    scans-unsent Memory halts = unsent Memory halts (λ x both. both) (λ begins. tt) (λ begins. tt)
     scans-unsent TooManyErrors halts = absurd halts

@@ -43,6 +43,7 @@ use Rattle.grep_core.proofs.ScansRows.{ends-numbered}
 use Rattle.grep_core.proofs.ScansTexts.{wrote-out, breaks-out, breaks-ext, grew-then}
 use Rattle.grep_core.specs.Underway.{tries}
 use Rattle.grep_core.proofs.ScansTaken.{tries-more, rows-tried}
+use Rattle.grep_core.proofs.Resting.{little-more}
 use Rattle.grep_core.proofs.ScansEnd.{full_of, scan-is, begins-scan, begins-tried, ends-scan, rest-late}
 use Rattle.tool_io.specs.Printed.{printed}
 
@@ -321,8 +322,25 @@ module _ (work : Work) (most : Option ℕ) (treated : Treatment) (s0 : State) (f
         below = λ none. let some = follows.some in absurd (omega arith);
       }
 
+  -- little past the lines that the scan has within it was taken
+  part-rest : (after : Told) (out1 : Kept) (follows : FollowsPart work (past before treated given) after out out1 SinkFault) → let x : Scan = scan_of work treated s0 (lines work.plan follows.begins.heard) in
+      x.ended ≡ early → TakesLittlePast x.within before after
+  part-rest after out1 follows =
+      let fs = follows.rows in
+      let begins = follows.begins in
+      let vs = tries work.plan work.patterns fs ++ tries work.plan work.patterns begins.more in
+      let finish = (lines work.plan begins.heard).finish in
+      let numbered = subst (λ l. AreNumbered 1 (rows_of l)) (begins-all fs begins.more) (begins-tried work most treated s0 f0 job before after (given ++ fs) begins) in
+      let is = begins-scan work most treated s0 f0 job before after (given ++ fs) begins ∙ ap (λ l. full_of work most treated s0 finish l) (begins-all fs begins.more) ∙ is-early vs finish numbered out1 in
+      let few = follows.long in
+      let m = after_n - length fs in
+      let split : after_n ≡ length fs + m = omega arith in
+      let first : take after_n (rows_of vs) ≡ fs ++ take m begins.more = (λ i. take (split i) (rows-all fs begins.more i)) ∙ take-append-add fs begins.more m in
+      let within = ap (λ (x : Scan). x.within) is ∙ early-within us t vs after_n ∙ (λ i. given-rows i ++ first i) ∙ sym (append_assoc given fs (take m begins.more)) in
+      λ _. subst (λ l. TakesLittlePast l before after) (sym within) (little-more (given ++ fs) (take m begins.more) before after (follows.soon refl).little)
+
   scans-part : (after : Told) (out1 : Kept) (stop : Stop) → FollowsPart work (past before treated given) after out out1 stop → Input after out1 (Err stop)
-  scans-part after out1 SinkFault follows = record { heard = follows.begins.heard; hears = follows.begins.hears; treats = follows.begins.treats; scans = part-breaks after out1 SinkFault follows; rest = tt; refused = part-soon after out1 follows }
+  scans-part after out1 SinkFault follows = record { heard = follows.begins.heard; hears = follows.begins.hears; treats = follows.begins.treats; scans = part-breaks after out1 SinkFault follows; rest = part-rest after out1 follows; refused = part-soon after out1 follows }
   scans-part after out1 Memory follows = record { heard = follows.begins.heard; hears = follows.begins.hears; treats = follows.begins.treats; scans = part-breaks after out1 Memory follows; rest = tt; refused = tt }
   scans-part after out1 TooManyErrors follows = absurd follows.wrote
 

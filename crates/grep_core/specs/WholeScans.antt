@@ -12,7 +12,7 @@ use Rattle.grep_output.specs.declared.shows.Treatment.{Treatment}
 use Rattle.grep_output.specs.declared.shows.Treatment.TheVariants.{AsText, Skipped}
 use Rattle.grep_output.specs.declared.ended.Ended.{Ended}
 use Rattle.grep_output.specs.declared.ended.Stop.{Stop}
-use Rattle.grep_output.specs.declared.ended.Stop.TheVariants.{SinkFault, TooManyErrors}
+use Rattle.grep_output.specs.declared.ended.Stop.TheVariants.{SinkFault, TooManyErrors, Memory}
 use Rattle.grep_match.specs.PatternTexts.{line_end}
 use Rattle.grep_output.specs.Shows.{is_told, show_in, greatest_selected, lines_after}
 use Rattle.grep_match.specs.Modes.{mode}
@@ -41,11 +41,14 @@ Stood plan treated before now f given =
     × (treatment_by (list_any (nat_eq 0) shown) plan.binary ≡ treated)))
 
 -- A scan that ends before its input does leaves the rest: at most 65,536 bytes past its last line, or its last line of
--- context, were taken.
+-- context, were taken, also where a write was refused, in the scan or after it.
 abbrev pub LeavesRest : {T : Type 0} → meant.Ended → List Row → Told → Told → Result T Stop → Type 0
 LeavesRest ended within before after (Ok _) =
     ended ≡ meant.early → TakesLittlePast within before after
-LeavesRest ended within before after (Err _) = ⊤
+LeavesRest ended within before after (Err SinkFault) =
+    ended ≡ meant.early → TakesLittlePast within before after
+LeavesRest ended within before after (Err TooManyErrors) = ⊤
+LeavesRest ended within before after (Err Memory) = ⊤
 
 module _ (work : Work) (treated : Treatment) (s : State) where
   -- the scan of these lines

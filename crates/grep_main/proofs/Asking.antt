@@ -38,9 +38,9 @@ use Rattle.grep_main.specs.RunsBy.{RunsBy}
 use Rattle.grep_main.specs.Stages.{sought, Streams, SearchesFor, SearchesBy, RunsOn, streams}
 use Rattle.tool_io.proofs.Taking.{hears-any, stand-any, stand-length, takes-any, takes-rest, takes-then}
 use Rattle.tool_io.proofs.Absence.{absent-none, absent-before, absent-join, absent-then, any-there, stand-there, rest-there}
-use Rattle.grep_main.specs.Leaves.{LeavesAll, LeavesBy, LeavesTexts, LeavesPlan, LeavesHelp, LeavesReads, LeavesInput, TiesBy, Unless, WhereEnded}
+use Rattle.grep_main.specs.Leaves.{LeavesAll, LeavesBy, LeavesTexts, LeavesPlan, LeavesHelp, LeavesReads, LeavesInput, LeavesUnasked, TiesBy, Unless, UnlessLacks}
 use Rattle.grep_main.proofs.Summing.{leaves-unread}
-use Rattle.grep_main.proofs.Tying.{leaves-nothing, unless-any, where-any, where-map}
+use Rattle.grep_main.proofs.Tying.{unasked-front, unasked-join, leaves-nothing, unless-any, where-any, where-map}
 use Rattle.grep_main.proofs.Outcomes.{runs-lacks, said-whole, said-halts}
 
 -- Faults that were counted before or after.
@@ -122,12 +122,12 @@ takes-targets false before after contents list given h = stand-targets contents 
 module _ (plan : GrepPlan) (found : Compiled) (words : List (List ℕ)) (was_used : Bool) (files files_new : Filed) where
   -- no target is looked at
   for-any : (t : Told) (old new : Printed) (result : Result ℕ Stop) → ((given : List Asked) → RunsBy (text_by_patterns words plan given found) old new result)
-      → ((given : List Asked) → WhereEnded result (Unless was_used (LeavesBy t t words plan given found)))
+      → ((given : List Asked) → UnlessLacks result (Unless was_used (LeavesBy t t words plan given found)))
       → SearchesFor (sought plan found words) was_used (streams files t old) (streams files_new t new) result
   for-any t old new result runs leaves =
       let list = lists-any files.contents files.faults files_new.faults plan words in
       let any = takes-any was_used t files.contents list.0 in
-      (list.0, list.1, (any.0, any.1, runs any.0, record { absent = any-there files.contents files.faults files_new.faults was_used t list.0; leaves = leaves any.0 }))
+      (list.0, list.1, (any.0, any.1, runs any.0, record { absent = any-there files.contents files.faults files_new.faults was_used t list.0; leaves = leaves any.0 }, λ none. refl))
 
   pub for-lacks : (t : Told) (out err : Kept) → SearchesFor (sought plan found words) was_used (streams files t (printed out err)) (streams files_new t (printed out err)) (Err Memory)
   for-lacks t out err = for-any t (printed out err) (printed out err) (Err Memory) (λ given. runs-lacks (text_by_patterns words plan given found) out err) (λ given. tt)
@@ -152,11 +152,11 @@ module _ (plan : GrepPlan) (patterns : List Pattern) (words : List (List ℕ)) (
       where-any result (Unless was_used fact) (unless-any was_used fact (leaves-unread (with_names words (targets_of given) plan) patterns t given first_state)))
 
   pub for-listed : (mid_faults : ℕ) (filter : Filter) (list : List Target) (named : GrepPlan) (before after : Told) (old new : Printed) (result : Result ℕ Stop) → files.faults ≤ mid_faults → filter_of plan ≡ Ok filter
-      → Lists files.contents files.faults files_new.faults plan words list → named ≡ with_names words list plan
+      → Lists files.contents files.faults files_new.faults plan words list → named ≡ with_names words list plan → LeavesUnasked list before after
       → ((given : List Asked) × TakesAll was_used before after files.contents list given × RunsBy (outcome_of named (reports named patterns given first_state)) old new result
       × TiesBy files.contents mid_faults files_new.faults given result (Unless was_used (LeavesAll before after named patterns given first_state)))
       → SearchesFor (sought plan (Ok patterns) words) was_used (streams files before old) (streams files_new after new) result
-  for-listed mid_faults filter list named before after old new result later is lists names h =
+  for-listed mid_faults filter list named before after old new result later is lists names unused h =
       let same = takes-targets was_used before after files.contents list h.0 h.1 in
       let named_so : named ≡ with_names words (targets_of h.0) plan = names ∙ ap (λ l. with_names words l plan) (sym same) in (
         list,
@@ -168,8 +168,9 @@ module _ (plan : GrepPlan) (patterns : List Pattern) (words : List (List ℕ)) (
               (subst (λ p. RunsBy (outcome_of p (reports p patterns h.0 first_state)) old new result) named_so h.2),
           record {
             absent = absent-before files.contents files.faults mid_faults files_new.faults h.0 later h.3.absent;
-            leaves = subst (λ p. WhereEnded result (Unless was_used (LeavesAll before after p patterns h.0 first_state))) named_so h.3.leaves;
+            leaves = subst (λ p. UnlessLacks result (Unless was_used (LeavesAll before after p patterns h.0 first_state))) named_so h.3.leaves;
           },
+          unused,
         ),
       )
 
@@ -199,8 +200,8 @@ module _ (words : List (List ℕ)) (plan : GrepPlan) (given : List Asked) (old n
   unread-leaves (Ok more) err_old err_new h = absurd h
   unread-leaves (Err text) err_old err_new h = tt
 
-  stopped-leaves : (found : FileTexts) (err_old err_new : Kept) (stop : Stop) → AddsTo found old new err_old err_new (Err stop) → WhereEnded {T = ℕ} (Err stop) (LeavesTexts before after words plan given found)
-  stopped-leaves (Ok more) err_old err_new stop h = subst (λ x. WhereEnded {T = ℕ} (Err x) (LeavesTexts before after words plan given (Ok more))) (sym h.0) tt
+  stopped-leaves : (found : FileTexts) (err_old err_new : Kept) (stop : Stop) → AddsTo found old new err_old err_new (Err stop) → UnlessLacks {T = ℕ} (Err stop) (LeavesTexts before after words plan given found)
+  stopped-leaves (Ok more) err_old err_new stop h = subst (λ x. UnlessLacks {T = ℕ} (Err x) (LeavesTexts before after words plan given (Ok more))) (sym h.0) tt
   stopped-leaves (Err text) err_old err_new stop h = where-any {T = ℕ} (Err stop) (LeavesTexts before after words plan given (Err text)) tt
 
   read-leaves : (found : FileTexts) (err_old err_mid : Kept) → old ≡ plan.patterns → AddsTo found old new err_old err_mid (Ok true) → LeavesBy before after words plan given (patterns_of plan new)
@@ -215,9 +216,9 @@ module _ (words : List (List ℕ)) (plan : GrepPlan) (given : List Asked) (befor
   used-leaves list (Ok patterns) stand = leaves-nothing (with_names words (targets_of given) plan) patterns contents before after list given first_state stand
 
   begun-leaves : (named list : List Target) (pattern_files : List Asked) (found : Compiled) (result : Result ℕ Stop) (used : Bool) → Takes false used before mid contents named pattern_files → TakesAll used mid after contents list given
-      → WhereEnded result (Unless used (LeavesBy mid after words plan given found)) → WhereEnded result (LeavesBy before after words plan given found)
+      → UnlessLacks result (Unless used (LeavesBy mid after words plan given found)) → UnlessLacks result (LeavesBy before after words plan given found)
   begun-leaves named list pattern_files found result true takes all leaves = where-any result (LeavesBy before after words plan given found) (used-leaves list found all.1)
-  begun-leaves named list pattern_files found result false takes all leaves = subst (λ t. WhereEnded result (LeavesBy t after words plan given found)) takes.0 leaves
+  begun-leaves named list pattern_files found result false takes all leaves = subst (λ t. UnlessLacks result (LeavesBy t after words plan given found)) takes.0 leaves
 
 -- A search by a plan.
 module _ (plan : GrepPlan) (words : List (List ℕ)) (files files_new : Filed) (before after : Told) where
@@ -228,10 +229,10 @@ module _ (plan : GrepPlan) (words : List (List ℕ)) (files files_new : Filed) (
   named-length given h = h ∙ length-map plan.pattern_files named_target
 
   -- the words for files aren't looked at
-  by-files : (pattern_files : List Asked) (old new : Printed) (result : Result ℕ Stop) → TakesAll false before after files.contents named pattern_files
+  by-files : (pattern_files : List Asked) (old new : Printed) (result : Result ℕ Stop) → LeavesUnasked named before after → TakesAll false before after files.contents named pattern_files
       → AbsentBy files.contents files.faults files_new.faults pattern_files → ((given : List Asked) → RunsBy (text_by_plan words plan pattern_files given) old new result)
-      → ((given : List Asked) → WhereEnded result (LeavesPlan before after words plan pattern_files given)) → SearchesBy plan words (streams files before old) (streams files_new after new) result
-  by-files pattern_files old new result h absent runs leaves =
+      → ((given : List Asked) → UnlessLacks result (LeavesPlan before after words plan pattern_files given)) → SearchesBy plan words (streams files before old) (streams files_new after new) result
+  by-files pattern_files old new result unused h absent runs leaves =
       let list = lists-any files.contents files.faults files_new.faults plan words in
       let rest = takes-rest false before after files.contents named list.0 pattern_files h in
       let there = rest-there files.contents files.faults files_new.faults false before after named list.0 pattern_files h in
@@ -239,26 +240,26 @@ module _ (plan : GrepPlan) (words : List (List ℕ)) (files files_new : Filed) (
         absent = absent-join files.contents files.faults files_new.faults pattern_files rest.0 absent there;
         leaves = leaves rest.0;
       } in
-      (rest.1.0, rest.1.1, (list.0, list.1, (pattern_files, rest.0, named-length pattern_files (stand-length files.contents h.0 named pattern_files h.2), rest.1.2, runs rest.0, ties)))
+      (rest.1.0, rest.1.1, (list.0, list.1, (pattern_files, rest.0, named-length pattern_files (stand-length files.contents h.0 named pattern_files h.2), rest.1.2, runs rest.0, ties, unasked-front named list.0 before after after unused)))
 
-  pub by-unread : (old new : List (List ℕ)) (used : Bool) (out err_old err_new : Kept) → AddsAllFrom plan files.contents files.faults files_new.faults false used before after old new err_old err_new (Ok false)
+  pub by-unread : (old new : List (List ℕ)) (used : Bool) (out err_old err_new : Kept) → LeavesUnasked named before after → AddsAllFrom plan files.contents files.faults files_new.faults false used before after old new err_old err_new (Ok false)
       → SearchesBy plan words (streams files before (printed out err_old)) (streams files_new after (printed out err_new)) (Ok 2)
-  by-unread old new used out err_old err_new h =
-      by-files h.0 (printed out err_old) (printed out err_new) (Ok 2) h.1 h.3 (λ given. unread-text words plan given old new (texts_in_files plan h.0) out err_old err_new h.2)
+  by-unread old new used out err_old err_new unused h =
+      by-files h.0 (printed out err_old) (printed out err_new) (Ok 2) unused h.1 h.3 (λ given. unread-text words plan given old new (texts_in_files plan h.0) out err_old err_new h.2)
       (λ given. unread-leaves words plan given old new before after (texts_in_files plan h.0) err_old err_new h.2)
 
-  pub by-stopped : (old new : List (List ℕ)) (used : Bool) (out err_old err_new : Kept) (stop : Stop) → AddsAllFrom plan files.contents files.faults files_new.faults false used before after old new err_old err_new (Err stop)
+  pub by-stopped : (old new : List (List ℕ)) (used : Bool) (out err_old err_new : Kept) (stop : Stop) → LeavesUnasked named before after → AddsAllFrom plan files.contents files.faults files_new.faults false used before after old new err_old err_new (Err stop)
       → SearchesBy plan words (streams files before (printed out err_old)) (streams files_new after (printed out err_new)) (Err stop)
-  by-stopped old new used out err_old err_new stop h =
-      by-files h.0 (printed out err_old) (printed out err_new) (Err stop) h.1 h.3 (λ given. stopped-text words plan given old new (texts_in_files plan h.0) out err_old err_new stop h.2)
+  by-stopped old new used out err_old err_new stop unused h =
+      by-files h.0 (printed out err_old) (printed out err_new) (Err stop) unused h.1 h.3 (λ given. stopped-text words plan given old new (texts_in_files plan h.0) out err_old err_new stop h.2)
       (λ given. stopped-leaves words plan given old new before after (texts_in_files plan h.0) err_old err_new stop h.2)
 
   pub by-search : (files_mid : Filed) (mid : Told) (old new : List (List ℕ)) (used : Bool) (out_old err_old err_mid : Kept) (printed_new : Printed) (result : Result ℕ Stop) → old ≡ plan.patterns
-      → files_mid.contents ≡ files.contents → files.faults ≤ files_mid.faults → files_mid.faults ≤ files_new.faults
+      → files_mid.contents ≡ files.contents → files.faults ≤ files_mid.faults → files_mid.faults ≤ files_new.faults → LeavesUnasked named before mid
       → AddsAllFrom plan files.contents files.faults files_mid.faults false used before mid old new err_old err_mid (Ok true)
       → SearchesFor (sought plan (patterns_of plan new) words) used (streams files_mid mid (printed out_old err_mid)) (streams files_new after printed_new) result
       → SearchesBy plan words (streams files before (printed out_old err_old)) (streams files_new after printed_new) result
-  by-search files_mid mid old new used out_old err_old err_mid printed_new result own same later rest_later h i =
+  by-search files_mid mid old new used out_old err_old err_mid printed_new result own same later rest_later unused h i =
       let list = i.0 in
       let given = i.2.0 in
       let lists = lists-before files.contents files.faults files_mid.faults files_new.faults plan words list later (subst (λ x. Lists x files_mid.faults files_new.faults plan words list) same i.1) in
@@ -270,7 +271,7 @@ module _ (plan : GrepPlan) (words : List (List ℕ)) (files files_new : Filed) (
         leaves = where-map result (LeavesBy before after words plan given (patterns_of plan new)) (LeavesPlan before after words plan h.0 given) (read-leaves words plan given old new before after (texts_in_files plan h.0) err_old err_mid own h.2)
             (begun-leaves words plan given before mid after files.contents named list h.0 (patterns_of plan new) result used h.1 taken i.2.3.leaves);
       } in
-      (all.0, all.1, (list, lists, (h.0, given, front, all.2, read-text words plan given old new (texts_in_files plan h.0) out_old err_old err_mid printed_new result own h.2 i.2.2, ties)))
+      (all.0, all.1, (list, lists, (h.0, given, front, all.2, read-text words plan given old new (texts_in_files plan h.0) out_old err_old err_mid printed_new result own h.2 i.2.2, ties, unasked-join named list before mid after unused i.2.4)))
     where
       takes-length : (used : Bool) (mid : Told) (given : List Asked) → Takes false used before mid files.contents named given → length given ≡ length named
       takes-length false mid given t = stand-length files.contents (hears-any before).0 named given (t.1 (hears-any before).0).0
@@ -279,7 +280,7 @@ module _ (plan : GrepPlan) (words : List (List ℕ)) (files files_new : Filed) (
 pub by-lacks : (plan : GrepPlan) (words : List (List ℕ)) (files : Filed) (t : Told) (out err : Kept) → SearchesBy plan words (streams files t (printed out err)) (streams files t (printed out err)) (Err Memory)
 by-lacks plan words files t out err =
     let any = takes-any false t files.contents (map named_target plan.pattern_files) in
-    by-files plan words files files t t any.0 (printed out err) (printed out err) (Err Memory) any.1 (any-there files.contents files.faults files.faults false t (map named_target plan.pattern_files)) (λ given. runs-lacks (text_by_plan words plan any.0 given) out err) (λ given. tt)
+    by-files plan words files files t t any.0 (printed out err) (printed out err) (Err Memory) (λ none. refl) any.1 (any-there files.contents files.faults files.faults false t (map named_target plan.pattern_files)) (λ given. runs-lacks (text_by_plan words plan any.0 given) out err) (λ given. tt)
 
 -- the words from the first that names an input, or none
 pub by-rest : {X : Type 0} (bytes : X → List ℕ) (ws : List X) (from start : ℕ) (holds : List (List ℕ) → Type 0) → start ≡ min from (length ws)
@@ -345,7 +346,7 @@ module _ (words : List (List ℕ)) (files files_new : Filed) where
         absent = ties.absent;
         leaves = where-map result (LeavesPlan before after names plan front given) (LeavesInput words (front ++ given) before after) (input-of words before after plan front given is search h.2.2.2) ties.leaves;
       } in
-      (h.0, h.1, (asked, asks, (front ++ given, h.2.2.3, subst (λ t. RunsBy t old new result) (sym text) h.2.2.4, tied)))
+      (h.0, h.1, (asked, asks, (front ++ given, h.2.2.3, subst (λ t. RunsBy t old new result) (sym text) h.2.2.4, tied, h.2.2.6)))
 
 -- Where nothing is searched.
 module _ (words : List (List ℕ)) (files : Filed) (t : Told) where
@@ -354,13 +355,13 @@ module _ (words : List (List ℕ)) (files : Filed) (t : Told) where
       let any = hears-any t in
       let asked = asks-any words files.contents files.faults files.faults in
       let given = stand-any files.contents any.0 asked.0 in
-      (any.0, any.1, (asked.0, asked.1, (given.0, given.1, runs-lacks (text_of words given.0) out err, record { absent = stand-there files.contents files.faults files.faults any.0 asked.0; leaves = tt })))
+      (any.0, any.1, (asked.0, asked.1, (given.0, given.1, runs-lacks (text_of words given.0) out err, record { absent = stand-there files.contents files.faults files.faults any.0 asked.0; leaves = tt }, λ none. refl)))
 
   unasked : (text : RunOutcome) (old new : Printed) (result : Result ℕ Stop) → AsksFor files.contents files.faults files.faults words [] → text_of words [] ≡ text → RunsBy text old new result → LeavesInput words [] t t
       → RunsOn words (streams files t old) (streams files t new) result
   unasked text old new result asks is h leaves =
       let any = hears-any t in
-      (any.0, any.1, ([], asks, ([], tt, subst (λ o. RunsBy o old new result) (sym is) h, record { absent = absent-none files.contents files.faults files.faults; leaves = where-any result (LeavesInput words [] t t) leaves })))
+      (any.0, any.1, ([], asks, ([], tt, subst (λ o. RunsBy o old new result) (sym is) h, record { absent = absent-none files.contents files.faults files.faults; leaves = where-any result (LeavesInput words [] t t) leaves }, λ none. refl)))
 
   pub on-fault : (fault : Fault) (old new : Printed) (result : Result ℕ Stop) → plan_of words ≡ Err fault → RunsBy (refusal (usage_message words fault)) old new result
       → RunsOn words (streams files t old) (streams files t new) result

@@ -1,6 +1,8 @@
 -- Files of patterns: what a line gives, what a source gives, and files one after another (pcre2grep, "OPTIONS", -f).
 use Rattle.std.proofs.Common.{◌≡◌, ◌≢◌, ℕ, ◌+◌, ◌-◌, ◌≤◌, Bool, true, false, if◌then◌else◌, List, [], ◌∷◌, ◌++◌, length, take, drop, get_or, map, filter, bytes_eq, codes, Option, Some, Result, Ok, Err, refl, sym, ap, subst, ◌∙◌, arith, append-nil, append_assoc}
 use Rattle.std.specs.Prelude.{slice_get}
+use Rattle.std.specs.List.{list_any}
+use Rattle.std.proofs.lemmas.Bool.{false≢true}
 use Rattle.std.proofs.lemmas.List.{map-append, take_all, take_more, take-append-drop}
 use Rattle.std.proofs.lemmas.List.Elements.{filter-append}
 use Rattle.std.proofs.lemmas.Option.{slice_get_within, get_or_from_slice_get}
@@ -23,7 +25,7 @@ use Rattle.grep_output.specs.declared.ended.Stop.{Stop}
 use Rattle.grep_output.specs.declared.ended.Stop.TheVariants.{Memory}
 use Rattle.tool_io.specs.declared.target.Target.{Target}
 use Rattle.tool_io.specs.declared.target.Target.TheVariants as targets
-use Rattle.tool_io.specs.Asked.{Asked, Opened, asked, named_target}
+use Rattle.tool_io.specs.Asked.{Asked, Opened, asked, is_standard, named_target}
 use Rattle.grep_main.specs.PatternFiles.{shown_name, FileTexts, is_white, with_byte, trimmed, is_given, patterns_in, texts_or_message, texts_of_rows, texts_of, texts_then, texts_in_files}
 use Rattle.grep_output.specs.Ends.{ended_of, stop_of}
 use Rattle.grep_output.specs.Messages.{ended_message}
@@ -34,6 +36,8 @@ use Rattle.grep_core.proofs.Halting.{halts-of}
 use Rattle.tool_io.proofs.Printing.{wrote-of, prefix-none}
 use Rattle.tool_io.specs.Takes.{IsLeft, Takes, TakesAll}
 use Rattle.grep_main.specs.Adds.{AddsLines, AddsTo, AddsWordFrom, AddsAllFrom}
+use Rattle.grep_main.specs.Leaves.{LeavesUnasked}
+use Rattle.grep_main.proofs.Tying.{unasked-front, unasked-join}
 use Rattle.tool_io.proofs.Taking.{takes-none, takes-more, takes-then, takes-end, takes-rest, takes-standard, takes-opened}
 use Rattle.tool_io.proofs.Absence.{absent-none, absent-then, absent-join, absent-there, rest-there}
 use Rattle.tool_io.specs.Absent.{AbsentBy}
@@ -222,12 +226,12 @@ adds-none plan contents first was_used t texts err = record {
 }
 
 -- the targets of words up to one of them, and of those after it
-named-more : (words : List (List ℕ)) (i : ℕ) (word : List ℕ) → slice_get words i ≡ Some word → map named_target (take i words) ++ named_target word ∷ [] ≡ map named_target (take (i + 1) words)
+pub named-more : (words : List (List ℕ)) (i : ℕ) (word : List ℕ) → slice_get words i ≡ Some word → map named_target (take i words) ++ named_target word ∷ [] ≡ map named_target (take (i + 1) words)
 named-more words i word at =
     sym (map-append named_target (take i words) (word ∷ []))
     ∙ ap (map named_target) (sym (take_more words i [] (slice_get_within words i word at) ∙ ap (λ (w : List ℕ). take i words ++ w ∷ []) (get_or_from_slice_get words i word [] at)))
 
-named-all : (words : List (List ℕ)) (i : ℕ) (word : List ℕ) → slice_get words i ≡ Some word
+pub named-all : (words : List (List ℕ)) (i : ℕ) (word : List ℕ) → slice_get words i ≡ Some word
     → (map named_target (take i words) ++ named_target word ∷ []) ++ map named_target (drop (i + 1) words) ≡ map named_target words
 named-all words i word at =
     ap (λ l. l ++ map named_target (drop (i + 1) words)) (named-more words i word at)
@@ -330,3 +334,21 @@ module _ (plan : GrepPlan) (word : List ℕ) (contents : Option Contents) (first
       → AddsWordFrom plan word contents first last used used t t old new err_old err_new result
   adds-named used t given is opened adds absent =
       word_adds (targets.File word) used used t t given (named-is false is) (takes-opened used t contents (targets.File word) given refl opened) adds absent
+
+-- Standard input that isn't among them.
+
+pub standard-asked : (word : List ℕ) (before after : Told) → bytes_eq word (codes "-") ≡ true → LeavesUnasked (named_target word ∷ []) before after
+standard-asked word before after is = λ none. absurd (false≢true (sym none ∙ ap (λ b. list_any is_standard ((if b then targets.Input else targets.File word) ∷ [])) is))
+
+module _ (files : List (List ℕ)) (i : ℕ) (word : List ℕ) (at : slice_get files i ≡ Some word) (before now after : Told) (had : LeavesUnasked (map named_target (take i files)) before now) (one : LeavesUnasked (named_target word ∷ []) now after) where
+  abbrev so_far : List Target
+  so_far = map named_target (take i files)
+
+  pub unasked-more : LeavesUnasked (map named_target (take (i + 1) files)) before after
+  unasked-more = subst (λ l. LeavesUnasked l before after) (named-more files i word at) (unasked-join so_far (named_target word ∷ []) before now after had one)
+
+  pub unasked-all : LeavesUnasked (map named_target files) before after
+  unasked-all =
+      let others = map named_target (drop (i + 1) files) in
+      subst (λ l. LeavesUnasked l before after) (named-all files i word at)
+      (unasked-front (so_far ++ named_target word ∷ []) others before after after (unasked-join so_far (named_target word ∷ []) before now after had one))

@@ -7,7 +7,7 @@ use Rattle.line_feed.specs.Rows.{Input}
 use Rattle.grep_args.specs.declared.plan.GrepPlan.{GrepPlan}
 use Rattle.grep_output.specs.declared.ended.FileEnd.{FileEnd}
 use Rattle.grep_output.specs.declared.ended.Stop.{Stop}
-use Rattle.grep_output.specs.declared.ended.Stop.TheVariants.{Memory}
+use Rattle.grep_output.specs.declared.ended.Stop.TheVariants.{SinkFault, TooManyErrors, Memory}
 use Rattle.grep_output.specs.declared.state.State.{State}
 use Rattle.tool_io.specs.declared.target.Target.{Target}
 use Rattle.tool_io.specs.declared.target.Target.TheVariants as targets
@@ -52,7 +52,9 @@ leaves-standard : (was_used : Bool) (w : Written) (before after : Told) (result 
 leaves-standard true w before after (Ok end) h = tt
 leaves-standard true w before after (Err stop) h = tt
 leaves-standard false w before after (Ok end) h = h refl
-leaves-standard false w before after (Err stop) h = tt
+leaves-standard false w before after (Err SinkFault) h = h refl
+leaves-standard false w before after (Err TooManyErrors) h = tt
+leaves-standard false w before after (Err Memory) h = tt
 
 used-left : (was_used is_used : Bool) (before after : Told) (left : Input) → IsLeft was_used is_used before after left → is_used ≡ true
 used-left true is_used before after left h = h.0

@@ -410,6 +410,17 @@ module _ (plan : GrepPlan) (patterns : List Pattern) where
         by_test true is uses = leaving-here is had (leaves-broken before after here broken) more
         by_test false is uses = subst (λ t. LeavesAll before t plan patterns ((given ++ a ∷ []) ++ more) first_state) (sym (uses.1 ∙ had.0)) (leaves-unread before ((given ++ a ∷ []) ++ more) first_state)
 
+    -- a write was refused
+    leaving-cut : (was_used mid_used is_used : Bool) → Leaving was_used mid_used before mid given s → Takes mid_used is_used mid after contents (a.target ∷ []) (a ∷ []) → Uses (is_standard a.target) mid_used is_used mid after
+        → LeavesTarget {T = Option FileEnd} mid_used (is_standard a.target) mid after here (Err SinkFault) → (more : List Asked) → Unless was_used (LeavesAll before after plan patterns ((given ++ a ∷ []) ++ more) first_state)
+    leaving-cut true mid_used is_used had takes uses leaves more = tt
+    leaving-cut false true is_used had takes uses leaves more = leaving-used is_used had takes more
+    leaving-cut false false is_used had takes uses leaves more = by_test (is_standard a.target) refl uses leaves
+      where
+        by_test : (b : Bool) → is_standard a.target ≡ b → Uses b false is_used mid after → LeavesTarget {T = Option FileEnd} false b mid after here (Err SinkFault) → LeavesAll before after plan patterns ((given ++ a ∷ []) ++ more) first_state
+        by_test true is uses leaves = leaving-here is had (subst (λ t. LeavesIt t after here) had.0 leaves) more
+        by_test false is uses leaves = subst (λ t. LeavesAll before t plan patterns ((given ++ a ∷ []) ++ more) first_state) (sym (uses.1 ∙ had.0)) (leaves-unread before ((given ++ a ∷ []) ++ more) first_state)
+
 -- The first targets of a run.
 module _ (plan : GrepPlan) (patterns : List Pattern) (contents : Option Contents) (first : ℕ) (was_used : Bool) (before : Told) (out_old err_old : Kept) where
   -- they were searched
@@ -522,6 +533,11 @@ module _ (plan : GrepPlan) (patterns : List Pattern) (contents : Option Contents
           let broken = comes-last plan patterns s s_new target out out_new err err_new came.given (subst (λ x. ReportsTo q s s_new (printed out err) (printed out_new err_new) (Err x)) is came.reports) in
           leaving-stop plan patterns before mid after contents had.given b s was_used mid_used is_used had.leaves came.takes came.uses broken.1 more
 
+      cut_leaves : stop ≡ SinkFault → (more : List Asked) → Unless was_used (LeavesAll before after plan patterns ((had.given ++ b ∷ []) ++ more) first_state)
+      cut_leaves is more =
+          leaving-cut plan patterns before mid after contents had.given b s was_used mid_used is_used had.leaves came.takes came.uses
+          (subst (λ x. LeavesTarget {T = Option FileEnd} mid_used (is_standard target) mid after q (Err x)) is came.leaves) more
+
       all_stop : (more : List Asked) → all plan patterns ((had.given ++ b ∷ []) ++ more) ≡ so_far ++ reports plan patterns (b ∷ more) s
       all_stop more = ap (all plan patterns) (append_assoc had.given (b ∷ []) more) ∙ all-more plan patterns had.given (b ∷ more) s had.sums.whole had.state
 
@@ -548,7 +564,7 @@ module _ (plan : GrepPlan) (patterns : List Pattern) (contents : Option Contents
           (subst (λ l. Breaks (flat_map out_of so_far ++ flat_map out_of (q ∷ some.0)) l (printed out_old err_old) (printed out_new err_new) (stop ≡ SinkFault)) (sym (flat_map-append err_of so_far (q ∷ some.0))) whole))
 
     stops-so : (rest : List Target) (stop : Stop) (came : ReportsTargetFrom plan patterns target contents mid_faults last mid_used is_used mid after s s_new (printed out err) (printed out_new err_new) (Err stop)) → Ends ((list ++ target ∷ []) ++ rest) last after out_new err_new (Err stop)
-    stops-so rest SinkFault came = let more = stop_takes rest SinkFault came in ((had.given ++ asked target came.given ∷ []) ++ more.0, more.1, stop_part rest SinkFault came (λ e. cc) more.0, record { absent = more.2; leaves = tt })
+    stops-so rest SinkFault came = let more = stop_takes rest SinkFault came in ((had.given ++ asked target came.given ∷ []) ++ more.0, more.1, stop_part rest SinkFault came (λ e. cc) more.0, record { absent = more.2; leaves = cut_leaves rest SinkFault came refl more.0 })
     stops-so rest TooManyErrors came = let more = stop_takes rest TooManyErrors came in ((had.given ++ asked target came.given ∷ []) ++ more.0, more.1, stop_last rest TooManyErrors came refl more.0, record { absent = more.2; leaves = stop_leaves rest TooManyErrors came refl more.0 })
     stops-so rest Memory came = let more = stop_takes rest Memory came in ((had.given ++ asked target came.given ∷ []) ++ more.0, more.1, stop_part rest Memory came (λ e. cc) more.0, record { absent = more.2; leaves = tt })
 

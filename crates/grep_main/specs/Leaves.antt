@@ -1,6 +1,7 @@
 -- What a run tells of its inputs beside its text: words → plan → patterns → the scan of standard input → how much past an early end
 -- was taken of it; and that a file is absent only where a fault was counted.
-use Rattle.std.specs.Prelude.{◌≡◌, ℕ, ◌<◌, Bool, true, false, List, [], ◌∷◌, ◌++◌, length, take, drop, Option, Some, None, Result, Ok, Err, ⊤}
+use Rattle.std.specs.Prelude.{◌≡◌, ◌≢◌, ℕ, Bool, true, false, List, [], ◌∷◌, ◌++◌, length, take, drop, Option, Some, None, Result, Ok, Err, ⊤}
+use Rattle.std.specs.List.{list_any}
 use Rattle.pcre_io.specs.Told.{Told}
 use Rattle.pcre_io.specs.Files.{Contents, Filed}
 use Rattle.grep_output.specs.LittlePast.{TakesLittlePast}
@@ -16,6 +17,7 @@ use Rattle.grep_core.specs.WholeScans.{LeavesRest}
 use Rattle.grep_output.specs.Scans.{early}
 use Rattle.grep_core.specs.grep_match.Compiled.{Compiled, patterns_of}
 use Rattle.pat_tree.specs.Pattern.{Pattern}
+use Rattle.tool_io.specs.declared.target.Target.{Target}
 use Rattle.tool_io.specs.Absent.{AbsentBy}
 use Rattle.tool_io.specs.Asked.{Asked, is_standard}
 use Rattle.grep_main.specs.PatternFiles.{FileTexts, texts_in_files}
@@ -68,8 +70,9 @@ module _ (before after : Told) where
   LeavesReads given words (Ok plan) =
       LeavesHelp (drop plan.files_from words) plan given plan.help
 
--- Where the scan of standard input ends before its input does, at most 65,536 bytes past its last line were taken of it. So it
--- is for a run on the words after the tool's name, whose targets stand for these inputs.
+-- Where the scan of standard input ends before its input does, at most 65,536 bytes past its last
+-- line were taken of it, also where a write was refused. So it is for a run on the words after the
+-- tool's name, whose targets stand for these inputs.
 unfoldable pub LeavesInput : List (List ℕ) → List Asked → Told → Told → Type 0
 LeavesInput words given before after = LeavesReads before after given words (plan_of words)
 
@@ -78,32 +81,36 @@ abbrev pub Unless : Bool → Type 0 → Type 0
 Unless true fact = ⊤
 Unless false fact = fact
 
--- where the run isn't cut off
-abbrev pub WhereEnded : {T : Type 0} → Result T Stop → Type 0 → Type 0
-WhereEnded (Ok _) fact = fact
-WhereEnded (Err TooManyErrors) fact = fact
-WhereEnded (Err SinkFault) fact = ⊤
-WhereEnded (Err Memory) fact = ⊤
+-- where memory didn't lack
+abbrev pub UnlessLacks : {T : Type 0} → Result T Stop → Type 0 → Type 0
+UnlessLacks (Ok _) fact = fact
+UnlessLacks (Err TooManyErrors) fact = fact
+UnlessLacks (Err SinkFault) fact = fact
+UnlessLacks (Err Memory) fact = ⊤
 
 -- what is told of inputs, over files whose count of faults rose from `first` to `last`
 pub record TiesBy {T : Type 0} (contents : Option Contents) (first last : ℕ) (given : List Asked)
     (result : Result T Stop) (fact : Type 0) : Type 0 where
   pub absent : AbsentBy contents first last given
-  pub leaves : WhereEnded result fact
+  pub leaves : UnlessLacks result fact
 
 -- the same of files that told this before, and tell this now
 abbrev pub Ties : {T : Type 0} → Filed → Filed → List Asked → Result T Stop → Type 0 → Type 0
 Ties old new given result fact = TiesBy old.contents old.faults new.faults given result fact
 
--- the same of a run that answers this status, which is 3 or 4 where it is cut off
+-- the same of a run that answers this status, which is 3 where memory lacked
 pub record RunTies (old new : Filed) (given : List Asked) (status : ℕ) (fact : Type 0)
     : Type 0 where
   pub absent : AbsentBy old.contents old.faults new.faults given
-  pub leaves : status < 3 → fact
+  pub leaves : status ≢ 3 → fact
 
 -- the scan of standard input
 abbrev pub LeavesScan : Written → Told → Told → Result FileEnd Stop → Type 0
 LeavesScan w before after result = LeavesRest w.ended w.within before after result
+
+-- standard input that isn't among the targets is left as it was
+abbrev pub LeavesUnasked : List Target → Told → Told → Type 0
+LeavesUnasked list before after = list_any is_standard list ≡ false → after ≡ before
 
 -- a target that is standard input uses it, and another one leaves it as it is
 abbrev pub Uses : Bool → Bool → Bool → Told → Told → Type 0
@@ -113,4 +120,5 @@ Uses false was_used is_used before after = (is_used ≡ was_used) × (after ≡ 
 -- what is told of one target that was searched: of standard input where it wasn't used before
 abbrev pub LeavesTarget : {T : Type 0} → Bool → Bool → Told → Told → Report → Result T Stop → Type 0
 LeavesTarget false true before after report (Ok _) = LeavesIt before after report
+LeavesTarget false true before after report (Err SinkFault) = LeavesIt before after report
 LeavesTarget _ _ before after report result = ⊤

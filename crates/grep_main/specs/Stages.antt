@@ -13,7 +13,7 @@ use Rattle.tool_io.specs.Printed.{Printed}
 use Rattle.grep_core.specs.grep_match.Compiled.{Compiled}
 use Rattle.grep_output.specs.declared.ended.Stop.{Stop}
 use Rattle.grep_main.specs.Asks.{AsksFor, Lists, asked_by_plan}
-use Rattle.grep_main.specs.Leaves.{Ties, Unless, LeavesBy, LeavesPlan, LeavesInput}
+use Rattle.grep_main.specs.Leaves.{Ties, Unless, LeavesBy, LeavesPlan, LeavesInput, LeavesUnasked}
 use Rattle.grep_main.specs.RunsBy.{RunsBy}
 use Rattle.grep_main.specs.declared.streams.Streams.{Streams as Lent}
 use Rattle.grep_main.specs.ToolText.{text_by_patterns, text_by_plan, text_of}
@@ -50,7 +50,8 @@ SearchesFor s was_used old new result =
     × ((given : List Asked) × TakesAll was_used old.input new.input old.files.contents list given
     × RunsBy (text_by_patterns s.words s.plan given s.patterns) old.printed new.printed result
     × Ties old.files new.files given result
-    (Unless was_used (LeavesBy old.input new.input s.words s.plan given s.patterns)))
+    (Unless was_used (LeavesBy old.input new.input s.words s.plan given s.patterns))
+    × LeavesUnasked list old.input new.input)
 
 -- a search by a plan
 abbrev pub SearchesBy : GrepPlan → List (List ℕ) → Streams → Streams → Result ℕ Stop → Type 0
@@ -63,7 +64,8 @@ SearchesBy plan words old new result =
     × StandFor old.files.contents heard (asked_by_plan plan list) (pattern_files ++ given)
     × RunsBy (text_by_plan words plan pattern_files given) old.printed new.printed result
     × Ties old.files new.files (pattern_files ++ given) result
-    (LeavesPlan old.input new.input words plan pattern_files given)))
+    (LeavesPlan old.input new.input words plan pattern_files given)
+    × LeavesUnasked (asked_by_plan plan list) old.input new.input))
 
 -- a run on the words after the tool's name
 abbrev pub RunsOn : List (List ℕ) → Streams → Streams → Result ℕ Stop → Type 0
@@ -74,4 +76,5 @@ RunsOn words old new result =
     × ((given : List Asked) × StandFor old.files.contents heard asked given
     × RunsBy (text_of words given) old.printed new.printed result
     × Ties old.files new.files given result
-    (LeavesInput words given old.input new.input)))
+    (LeavesInput words given old.input new.input)
+    × LeavesUnasked asked old.input new.input))

@@ -8,7 +8,7 @@ ghost use Rattle.tool_io.specs.Asked.{Asked};
 ghost use Rattle.pcre_io.specs.Told.{Kept};
 ghost use Rattle.grep_core.specs.grep_match.Compiled.{patterns_in, patterns_of};
 ghost use Rattle.grep_output.specs.InputText.{first_state};
-ghost use Rattle.grep_main.specs.Leaves.{LeavesAll, Ties, Unless};
+ghost use Rattle.grep_main.specs.Leaves.{LeavesAll, LeavesUnasked, Ties, Unless};
 ghost use Rattle.grep_main.specs.Refusals.{refusal, usage_message, help_text};
 ghost use Rattle.grep_main.specs.Reports.{reports};
 ghost use Rattle.grep_main.specs.ToolText.{outcome_of, is_below, names_for, shows_names};
@@ -49,6 +49,8 @@ fn sum_listed<F: FileSet, S: Source, O: Sink, E: Sink>(
         × Ties before after given result (Unless io.old.is_used (LeavesAll
         (S.tells io.old.input.now) (S.tells io.new.input.now) plan.now (patterns_in patterns.now)
         given first_state)) }
+    ensures unused { LeavesUnasked list.now (S.tells io.old.input.now)
+        (S.tells io.new.input.now) }
     ensures streams { AreSame io.old io.new }
     ensures files { (F.tells io.new.files.now).contents ≡ (F.tells io.old.files.now).contents }
     ensures later { (F.tells io.old.files.now).faults ≤ (F.tells io.new.files.now).faults }
@@ -85,6 +87,8 @@ fn grep_listed<F: FileSet, S: Source, O: Sink, E: Sink>(
         × Ties before after given result (Unless io.old.is_used (LeavesAll
         (S.tells io.old.input.now) (S.tells io.new.input.now) plan.now (patterns_in patterns.now)
         given first_state)) }
+    ensures unused { LeavesUnasked list.now (S.tells io.old.input.now)
+        (S.tells io.new.input.now) }
     ensures streams { AreSame io.old io.new }
     ensures files { (F.tells io.new.files.now).contents ≡ (F.tells io.old.files.now).contents }
     ensures later { (F.tells io.old.files.now).faults ≤ (F.tells io.new.files.now).faults }

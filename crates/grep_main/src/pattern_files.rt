@@ -1,13 +1,14 @@
 //! Files of patterns (pcre2grep, "OPTIONS", `-f`).
-ghost use Rattle.std.specs.Prelude.{◌≡◌, ◌≤◌, ◌∷◌, [], ◌++◌, filter, OnOk, OnErr, IfOk, Some, Option, Err};
+ghost use Rattle.std.specs.Prelude.{◌≡◌, ◌≤◌, ◌∷◌, [], ◌++◌, filter, map, OnOk, OnErr, IfOk, Some, Option, Err};
 ghost use Rattle.line_feed.specs.Rows.{Input};
 ghost use Rattle.line_feed.specs.Hears.{Hears};
 ghost use Rattle.tool_io.specs.declared.target.Target.TheVariants as targets;
 ghost use Rattle.tool_io.specs.Absent.{AbsentBy};
-ghost use Rattle.tool_io.specs.Asked.{asked, Opened};
+ghost use Rattle.tool_io.specs.Asked.{asked, named_target, Opened};
 ghost use Rattle.grep_main.specs.PatternFiles.{is_white, trimmed, is_given, texts_of};
 ghost use Rattle.tool_io.specs.Takes.{IsLeft, inputs};
 ghost use Rattle.grep_main.specs.Adds.{AddsLines, AddsTo, AddsWord, AddsAll, reading};
+ghost use Rattle.grep_main.specs.Leaves.{LeavesUnasked};
 
 use crate::messages::write_missing;
 use byte_lanes::EndKind;
@@ -181,6 +182,8 @@ fn add_file<F: FileSet, S: Source, E: Sink>(
         (E.tells err.old))
         (reading (inputs (F.tells files.new) (S.tells input.new) is_used.new) texts.new
         (E.tells err.new)) result }
+    ensures unused { LeavesUnasked (named_target word.now ∷ []) (S.tells input.old)
+        (S.tells input.new) }
     ensures files { (F.tells files.new).contents ≡ (F.tells files.old).contents }
     ensures later { (F.tells files.old).faults ≤ (F.tells files.new).faults }
 {
@@ -208,6 +211,8 @@ pub fn add_files<F: FileSet, S: Source, E: Sink>(
         (E.tells err.old))
         (reading (inputs (F.tells files.new) (S.tells input.new) is_used.new) texts.new
         (E.tells err.new)) result }
+    ensures unused { LeavesUnasked (map named_target plan.now.pattern_files) (S.tells input.old)
+        (S.tells input.new) }
     ensures files { (F.tells files.new).contents ≡ (F.tells files.old).contents }
     ensures later { (F.tells files.old).faults ≤ (F.tells files.new).faults }
 {

@@ -7,7 +7,7 @@ ghost use Rattle.tool_io.specs.Asked.{Asked, StandFor};
 ghost use Rattle.tool_io.specs.Outcomes.{Runs};
 ghost use Rattle.tool_io.specs.Printed.{printed};
 ghost use Rattle.grep_main.specs.Asks.{AsksFor};
-ghost use Rattle.grep_main.specs.Leaves.{LeavesInput, RunTies};
+ghost use Rattle.grep_main.specs.Leaves.{LeavesInput, LeavesUnasked, RunTies};
 ghost use Rattle.grep_main.specs.ToolText.{text_of};
 
 use crate::grep::grep;
@@ -31,8 +31,9 @@ pub fn run_grep<F: FileSet, S: Source, O: Sink, E: Sink>(
     // The targets that its words ask for stand for the input that the source stands for, and for
     // the files. For these the sinks grew by its text, and the answer is its status; or memory
     // lacked or a write failed, and they grew by a part of it. A file is absent only where it is
-    // known to be, or a fault was counted; and where the scan of standard input ends early, little
-    // past its last line was taken of it.
+    // known to be, or a fault was counted. Where the scan of standard input ends early, little past
+    // its last line was taken of it, unless memory lacked. Where no target is standard input, it is
+    // left as it was.
     ensures text { let before = F.tells files.old in let after = F.tells files.new in
         (heard : Input) × Hears (S.tells input.old) (S.tells input.new) heard
         × ((asked : List Target) × AsksFor before.contents before.faults after.faults
@@ -41,7 +42,8 @@ pub fn run_grep<F: FileSet, S: Source, O: Sink, E: Sink>(
         × Runs (text_of (map string_bytes words.now) given) result
         (printed (O.tells out.old) (E.tells err.old)) (printed (O.tells out.new) (E.tells err.new))
         × RunTies before after given result (LeavesInput (map string_bytes words.now) given
-        (S.tells input.old) (S.tells input.new)))) }
+        (S.tells input.old) (S.tells input.new))
+        × LeavesUnasked asked (S.tells input.old) (S.tells input.new))) }
     ensures files { (F.tells files.new).contents ≡ (F.tells files.old).contents }
 {
     match grep(alloc, words, files, input, out, err) {

@@ -1,6 +1,7 @@
 -- What the tool writes: words → the tool that the first one names, the targets that it asks for and what they stand for → its
 -- text.
-use Rattle.std.specs.Prelude.{◌≡◌, ℕ, List, [], ◌∷◌, Bool, true, false, codes, bytes_eq, ⊤}
+use Rattle.std.specs.Prelude.{◌≡◌, ◌≢◌, ℕ, List, [], ◌∷◌, Bool, true, false, codes, bytes_eq, ⊤}
+use Rattle.pcre_io.specs.Told.{Told}
 use Rattle.pcre_io.specs.Files.{Filed}
 use Rattle.tool_io.specs.declared.target.Target.{Target}
 use Rattle.tool_io.specs.Asked.{Asked}
@@ -10,6 +11,7 @@ use Rattle.grep_main.specs.Asks.{AsksFor}
 use Rattle.grep_main.specs.Leaves.{LeavesInput, RunTies}
 use Rattle.grep_main.specs.Stages.{Streams}
 use Rattle.grep_main.specs.ToolText.{text_of}
+use Rattle.test_main.specs.Opens.{AreGiven}
 use Rattle.test_main.specs.ToolText as script
 
 -- by the name of the tool
@@ -31,17 +33,22 @@ ToolAsks old new [] asked = asked ≡ []
 ToolAsks old new (tool ∷ words) asked = AsksIf (is_grep tool) (is_test tool) old new words asked
 
 -- what is told of inputs beside the text, for a run that answers this status
-abbrev pub TiesIf : Bool → Streams → Streams → List (List ℕ) → List Asked → ℕ → Type 0
-TiesIf true old new words given status =
+abbrev pub TiesIf : {S : Type 0} → (S → Told) → Bool → Streams → Streams → List (List ℕ)
+    → List Asked → ℕ → Type 0
+TiesIf tells true old new words given status =
     RunTies old.files new.files given status (LeavesInput words given old.input new.input)
-TiesIf false old new words given status =
+TiesIf tells false old new words given status =
     AbsentBy old.files.contents old.files.faults new.files.faults given
+    × (status ≢ 3 → AreGiven tells old.files.contents given)
 
--- A file that a tool was to read is absent only where a fault was counted. Where pcre2grep's scan of standard input ends early,
--- little past its last line was taken of it.
-abbrev pub ToolTies : Streams → Streams → List (List ℕ) → List Asked → ℕ → Type 0
-ToolTies old new [] given status = ⊤
-ToolTies old new (tool ∷ words) given status = TiesIf (is_grep tool) old new words given status
+-- A file that a tool was to read is absent only where a fault was counted. Unless memory lacked,
+-- little past its last line was taken where pcre2grep's scan of standard input ends early, and what
+-- pcre2test's file stands for was given by a source that was opened, which tells so much.
+abbrev pub ToolTies : {S : Type 0} → (S → Told) → Streams → Streams → List (List ℕ) → List Asked → ℕ
+    → Type 0
+ToolTies tells old new [] given status = ⊤
+ToolTies tells old new (tool ∷ words) given status =
+    TiesIf tells (is_grep tool) old new words given status
 
 -- by the tool
 abbrev pub text_by : Bool → Bool → List (List ℕ) → List Asked → RunOutcome

@@ -1,18 +1,19 @@
 -- A script's run, by what was written of it.
-use Rattle.std.proofs.Common.{◌≡◌, ◌∙◌, ℕ, ◌<◌, List, [], ◌∷◌, codes, Option, None, Some, Result, Ok, Err, refl, sym, ap, subst, arith, inl, inr, option_map}
-use Rattle.std.proofs.lemmas.Bool.{lt-leb}
+use Rattle.std.proofs.Common.{◌≡◌, ◌≢◌, ◌∙◌, ℕ, ◌<◌, false, List, [], ◌∷◌, codes, Option, None, Some, Result, Ok, Err, refl, sym, ap, subst, arith, inl, inr, option_map}
+use Rattle.std.specs.List.{list_any}
+use Rattle.std.proofs.lemmas.Bool.{lt-leb, false≢true}
 use Rattle.std.proofs.KnownBytes.{Appends-nil, Appends-trans}
 use Rattle.std.specs.Io.KnownBytes.{Appends}
 use Rattle.pcre_io.specs.Told.{Told, Kept, AppendsPrefix}
 use Rattle.pcre_io.specs.Causes.{Rose, CountsRefusals}
-use Rattle.pcre_io.specs.Files.{Contents, IsMissing}
+use Rattle.pcre_io.specs.Files.{Contents, IsMissing, Opens}
 use Rattle.pcre_io.specs.declared.traits.IoError.{IoError}
 use Rattle.pcre_io.specs.declared.traits.IoError.TheVariants.{Failed, Memory}
 use Rattle.line_feed.specs.Rows.{Input, Finish, At, End}
 use Rattle.line_feed.specs.Hears.{Hears}
 use Rattle.tool_io.specs.declared.target.Target.{Target}
 use Rattle.tool_io.specs.declared.target.Target.TheVariants as targets
-use Rattle.tool_io.specs.Asked.{Asked, asked, input_of, Opened, StandFor}
+use Rattle.tool_io.specs.Asked.{Asked, asked, input_of, is_standard, Opened, StandFor}
 use Rattle.tool_io.specs.Absent.{AbsentBy}
 use Rattle.tool_io.proofs.Absence.{absent-none, stand-there}
 use Rattle.tool_io.proofs.Taking.{hears-any, stand-any}
@@ -25,6 +26,7 @@ use Rattle.tool_io.proofs.Printing.{prefix-of, prefix-none}
 use Rattle.tool_io.proofs.Writing.{prefix-more, prefix-front}
 use Rattle.test_script.specs.declared.plan.TestPlan.{TestPlan}
 use Rattle.test_run.specs.TestText.{Tested}
+use Rattle.test_main.specs.Opens.{AreGiven, GivenBy, UnlessLacks}
 use Rattle.test_main.specs.RunsBy.{Ran, Counts, Stopped, RunsBy}
 use Rattle.test_main.specs.declared.words.Script.{Script}
 use Rattle.test_main.specs.declared.words.Script.TheVariants.{Standard, File, Generated}
@@ -163,29 +165,56 @@ module _ (n : ℕ) (old new err : Kept) where
   pub generated-part : (e : IoError) → Writes {T = Unit {0}} (generated_text n) old new (Err e) → RunsBy (generated_outcome n) (printed old err) (printed new err) (Err e)
   generated-part e w = record { out = w.part; err = prefix-none err.held []; cause = counts-out old old new err e refl w.cause }
 
+-- what is said where memory didn't lack
+pub unless-any : (result : Result ℕ IoError) (fact : Type 0) → fact → UnlessLacks result fact
+unless-any (Ok status) fact h = h
+unless-any (Err Failed) fact h = h
+unless-any (Err Memory) fact h = tt
+
+pub unless-stopped : (e : IoError) (fact : Type 0) → UnlessLacks (Err e) fact → outcomes.status_of e ≢ 3 → fact
+unless-stopped Failed fact h other = h
+unless-stopped Memory fact h other = absurd (other refl)
+
+-- a file of which a source was opened
+pub given-opened : {S : Type 0} (tells : S → Told) (contents : Option Contents) (path : List ℕ) (opened left : S) (input : Input) → Opens contents path (tells opened) → Hears (tells opened) (tells left) input → AreGiven tells contents (given_of (targets.File path) (Some input))
+given-opened tells contents path opened left input opens hears =
+    let by : GivenBy tells contents path input = record { opened = opened; left = left; opens = opens; hears = hears } in (by, tt)
+
 -- by what the words are read as, where the count of faults of the files rose from `first` to `last`
-abbrev pub Found : Told → Told → Option Contents → ℕ → ℕ → Option TestWords → Printed → Printed → Result ℕ IoError → Type 0
-Found before after contents first last words old new result =
-    (heard : Input) × Hears before after heard × ((given : List Asked) × StandFor contents heard (asked_by words) given × RunsBy (text_by words given) old new result × AbsentBy contents first last given)
+abbrev pub Found : {S : Type 0} → (S → Told) → Told → Told → Option Contents → ℕ → ℕ → Option TestWords → Printed → Printed → Result ℕ IoError → Type 0
+Found tells before after contents first last words old new result =
+    (heard : Input) × Hears before after heard
+    × ((given : List Asked) × StandFor contents heard (asked_by words) given × RunsBy (text_by words given) old new result × AbsentBy contents first last given × UnlessLacks result (AreGiven tells contents given))
 
-abbrev pub FoundOf : Told → Told → Option Contents → ℕ → ℕ → List (List ℕ) → Printed → Printed → Result ℕ IoError → Type 0
-FoundOf before after contents first last words old new result =
-    (heard : Input) × Hears before after heard × ((given : List Asked) × StandFor contents heard (asked_targets words) given × RunsBy (text_of words given) old new result × AbsentBy contents first last given)
+abbrev pub FoundOf : {S : Type 0} → (S → Told) → Told → Told → Option Contents → ℕ → ℕ → List (List ℕ) → Printed → Printed → Result ℕ IoError → Type 0
+FoundOf tells before after contents first last words old new result =
+    (heard : Input) × Hears before after heard
+    × ((given : List Asked) × StandFor contents heard (asked_targets words) given × RunsBy (text_of words given) old new result × AbsentBy contents first last given × UnlessLacks result (AreGiven tells contents given))
 
-pub found-read : (before after : Told) (contents : Option Contents) (first last : ℕ) (words : List (List ℕ)) (read : Option TestWords) (old new : Printed) (result : Result ℕ IoError) → words_of words ≡ read
-    → Found before after contents first last read old new result → FoundOf before after contents first last words old new result
-unfolding asked_targets text_of
-found-read before after contents first last words read old new result is found = subst (λ r. Found before after contents first last r old new result) (sym is) found
+module _ {S : Type 0} (tells : S → Told) where
+  pub found-read : (before after : Told) (contents : Option Contents) (first last : ℕ) (words : List (List ℕ)) (read : Option TestWords) (old new : Printed) (result : Result ℕ IoError) → words_of words ≡ read
+      → Found tells before after contents first last read old new result → FoundOf tells before after contents first last words old new result
+  unfolding asked_targets text_of
+  found-read before after contents first last words read old new result is found = subst (λ r. Found tells before after contents first last r old new result) (sym is) found
 
--- nothing is asked for
-pub found-refused : (t : Told) (contents : Option Contents) (first last : ℕ) (words : List (List ℕ)) (old new : Printed) (result : Result ℕ IoError) → words_of words ≡ None
-    → RunsBy (said (codes "pcre2test: bad arguments") 1) old new result → FoundOf t t contents first last words old new result
-found-refused t contents first last words old new result is runs =
-    let any = hears-any t in found-read t t contents first last words None old new result is (any.0, any.1, ([], tt, runs, absent-none contents first last))
+  -- nothing is asked for
+  pub found-refused : (t : Told) (contents : Option Contents) (first last : ℕ) (words : List (List ℕ)) (old new : Printed) (result : Result ℕ IoError) → words_of words ≡ None
+      → RunsBy (said (codes "pcre2test: bad arguments") 1) old new result → FoundOf tells t t contents first last words old new result
+  found-refused t contents first last words old new result is runs =
+      let any = hears-any t in found-read t t contents first last words None old new result is (any.0, any.1, ([], tt, runs, absent-none contents first last, unless-any result (AreGiven tells contents []) tt))
 
--- memory lacked before anything was read
-pub found-lacks : (t : Told) (contents : Option Contents) (first last : ℕ) (words : List (List ℕ)) (p : Printed) → FoundOf t t contents first last words p p (Err Memory)
-found-lacks t contents first last words p =
-    let any = hears-any t in
-    let stands = stand-any contents any.0 (asked_targets words) in
-    (any.0, any.1, (stands.0, stands.1, lacks (text_of words stands.0) p, stand-there contents first last any.0 (asked_targets words)))
+  -- memory lacked before anything was read
+  pub found-lacks : (t : Told) (contents : Option Contents) (first last : ℕ) (words : List (List ℕ)) (p : Printed) → FoundOf tells t t contents first last words p p (Err Memory)
+  found-lacks t contents first last words p =
+      let any = hears-any t in
+      let stands = stand-any contents any.0 (asked_targets words) in
+      (any.0, any.1, (stands.0, stands.1, lacks (text_of words stands.0) p, stand-there contents first last any.0 (asked_targets words), tt))
+
+-- Standard input that isn't asked for.
+
+pub standard-asked : (words : TestWords) → words.script ≡ Standard → list_any is_standard (asked_by (Some words)) ≡ false → ⊥
+standard-asked words is none = false≢true (sym none ∙ ap (λ s. list_any is_standard (targets_of s)) is)
+
+pub unused-read : (words : List (List ℕ)) (read : Option TestWords) (fact : Type 0) → words_of words ≡ read → (list_any is_standard (asked_by read) ≡ false → fact) → list_any is_standard (asked_targets words) ≡ false → fact
+unfolding asked_targets
+unused-read words read fact is h none = h (subst (λ r. list_any is_standard (asked_by r) ≡ false) is none)

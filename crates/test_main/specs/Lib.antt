@@ -3,3 +3,4 @@ pub mod ToolText
 pub mod RunsBy
 pub mod Laws
 pub mod Worked
+pub mod Opens

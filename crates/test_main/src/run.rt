@@ -1,12 +1,14 @@
 //! A run of pcre2test.
-ghost use Rattle.std.specs.Prelude.{◌≡◌, ◌∷◌, [], map, string_bytes, List, Option, Some};
+ghost use Rattle.std.specs.Prelude.{◌≡◌, ◌≢◌, false, map, string_bytes, List, Option, Some};
+ghost use Rattle.std.specs.List.{list_any};
 ghost use Rattle.line_feed.specs.Rows.{Input};
 ghost use Rattle.line_feed.specs.Hears.{Hears};
-ghost use Rattle.tool_io.specs.Asked.{Asked, Opened, StandFor};
+ghost use Rattle.tool_io.specs.Asked.{Asked, Opened, StandFor, is_standard};
 ghost use Rattle.tool_io.specs.Absent.{AbsentBy};
 ghost use Rattle.pcre_io.specs.Told.{Kept};
 ghost use Rattle.tool_io.specs.Outcomes.{Runs};
 ghost use Rattle.tool_io.specs.Printed.{printed};
+ghost use Rattle.test_main.specs.Opens.{AreGiven, UnlessLacks};
 ghost use Rattle.test_main.specs.RunsBy.{RunsBy};
 ghost use Rattle.test_main.specs.ToolText.{script_text, generated_outcome, text_on, text_by, text_of, asked_by, asked_targets, file_given};
 
@@ -67,7 +69,8 @@ fn run_file<F: FileSet, O: Sink, E: Sink>(
         × RunsBy (text_on plan.now name.now given)
         (printed (O.tells out.old) (E.tells err.old))
         (printed (O.tells out.new) (E.tells err.new)) result
-        × AbsentBy before.contents before.faults after.faults (file_given name.now given) }
+        × AbsentBy before.contents before.faults after.faults (file_given name.now given)
+        × UnlessLacks result (AreGiven F.Src.tells before.contents (file_given name.now given)) }
     ensures files { (F.tells files.new).contents ≡ (F.tells files.old).contents }
 {
     match files.open_file(alloc, name) {
@@ -105,7 +108,10 @@ fn run_asked<F: FileSet, S: Source, O: Sink, E: Sink>(
         × RunsBy (text_by (Some asked.now) given)
         (printed (O.tells out.old) (E.tells err.old))
         (printed (O.tells out.new) (E.tells err.new)) result
-        × AbsentBy before.contents before.faults after.faults given) }
+        × AbsentBy before.contents before.faults after.faults given
+        × UnlessLacks result (AreGiven F.Src.tells before.contents given)) }
+    ensures unused { list_any is_standard (asked_by (Some asked.now)) ≡ false
+        → S.tells input.new ≡ S.tells input.old }
     ensures files { (F.tells files.new).contents ≡ (F.tells files.old).contents }
 {
     match &asked.script {
@@ -131,7 +137,10 @@ fn run_words<F: FileSet, S: Source, O: Sink, E: Sink>(
         × RunsBy (text_of (map string_bytes words.now) given)
         (printed (O.tells out.old) (E.tells err.old))
         (printed (O.tells out.new) (E.tells err.new)) result
-        × AbsentBy before.contents before.faults after.faults given) }
+        × AbsentBy before.contents before.faults after.faults given
+        × UnlessLacks result (AreGiven F.Src.tells before.contents given)) }
+    ensures unused { list_any is_standard (asked_targets (map string_bytes words.now)) ≡ false
+        → S.tells input.new ≡ S.tells input.old }
     ensures files { (F.tells files.new).contents ≡ (F.tells files.old).contents }
 {
     match read_words(alloc, words) {
@@ -161,7 +170,8 @@ pub fn run_test<F: FileSet, S: Source, O: Sink, E: Sink>(
     // The target that its words ask for stands for the input that the source stands for, or for the
     // file. For this the sinks grew by its text, and the answer is its status; or memory lacked or
     // a write failed, and they grew by a part of it. A file of which it isn't known is absent only
-    // where a fault was counted.
+    // where a fault was counted; and unless memory lacked, a file that is there was opened, and its
+    // source stands for its input.
     ensures text { let before = F.tells files.old in let after = F.tells files.new in
         (heard : Input) × Hears (S.tells input.old) (S.tells input.new) heard
         × ((given : List Asked) × StandFor before.contents heard
@@ -169,7 +179,11 @@ pub fn run_test<F: FileSet, S: Source, O: Sink, E: Sink>(
         × Runs (text_of (map string_bytes words.now) given) result
         (printed (O.tells out.old) (E.tells err.old))
         (printed (O.tells out.new) (E.tells err.new))
-        × AbsentBy before.contents before.faults after.faults given) }
+        × AbsentBy before.contents before.faults after.faults given
+        × (result ≢ 3 → AreGiven F.Src.tells before.contents given)) }
+    // Standard input that the words don't ask for is left as it was.
+    ensures unused { list_any is_standard (asked_targets (map string_bytes words.now)) ≡ false
+        → S.tells input.new ≡ S.tells input.old }
     ensures files { (F.tells files.new).contents ≡ (F.tells files.old).contents }
 {
     match run_words(alloc, words, files, input, out, err) {

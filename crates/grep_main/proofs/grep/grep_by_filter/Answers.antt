@@ -40,5 +40,5 @@ returns-clause-runs g c =
     let lists = lists-later files.contents files.faults files_mid.faults files_new.faults plan words list c.grep_listed.ensures.later told in
     let names : named ≡ with_names words list plan = search rules in
     let runs = c.grep_listed.ensures.runs in
-    for-listed plan (patterns_in c.args.patterns.now) words used files files_new files_mid.faults filter list named before after old new c.grep_listed.result c.in_ok-list.ensures.later c.requires.filter lists names
+    for-listed plan (patterns_in c.args.patterns.now) words used files files_new files_mid.faults filter list named before after old new c.grep_listed.result c.in_ok-list.ensures.later c.requires.filter lists names (rw c.as_slice-2.ensures at c.grep_listed.ensures.unused)
     (rw (c.in_ok-list.ensures.same, c.as_slice-2.ensures) at runs)

@@ -33,7 +33,7 @@ returns-in_err-add_files-clause-runs g c =
     let err_old = g.E.Sink.tells c.args.err.now in
     let err_new = g.E.Sink.tells c.add_files.new.err in
     subst (SearchesBy c.args.plan words (streams files now (printed out err_old)) (streams files_new after (printed out err_new))) (sym same)
-    (by-stopped c.args.plan words files files_new now after c.in_ok-texts.texts c.add_files.new.texts c.add_files.new.is_used out err_old err_new stop c.in_err-add_files.ensures.adds)
+    (by-stopped c.args.plan words files files_new now after c.in_ok-texts.texts c.add_files.new.texts c.add_files.new.is_used out err_old err_new stop c.in_err-add_files.ensures.unused c.in_err-add_files.ensures.adds)
 
 pub returns-then-not-branch-clause-runs : goal.returns-then-not-branch-clause-runs
 returns-then-not-branch-clause-runs g c =
@@ -42,7 +42,7 @@ returns-then-not-branch-clause-runs g c =
     let after = g.S.Source.tells c.add_files.new.input in
     let err_old = g.E.Sink.tells c.args.err.now in
     let err_new = g.E.Sink.tells c.add_files.new.err in
-    by-unread c.args.plan (map string_bytes c.args.words.now) files (g.F.FileSet.tells c.add_files.new.files) now after c.in_ok-texts.texts c.add_files.new.texts c.add_files.new.is_used (g.O.Sink.tells c.args.out.now) err_old err_new
+    by-unread c.args.plan (map string_bytes c.args.words.now) files (g.F.FileSet.tells c.add_files.new.files) now after c.in_ok-texts.texts c.add_files.new.texts c.add_files.new.is_used (g.O.Sink.tells c.args.out.now) err_old err_new c.in_ok-add_files.ensures.unused
     (subst (λ all. AddsAllFrom c.args.plan files.contents files.faults (g.F.FileSet.tells c.add_files.new.files).faults false c.add_files.new.is_used now after c.in_ok-texts.texts c.add_files.new.texts err_old err_new (Ok all)) c.if-not-branch.true c.in_ok-add_files.ensures.adds)
 
 -- what is said of streams by what they tell is said of them where they are given back
@@ -70,7 +70,7 @@ returns-clause-runs g c =
     given-back g.F.FileSet.tells g.S.Source.tells g.O.Sink.tells g.E.Sink.tells c.args.plan words (streams files now (printed out err_old)) c.grep_by_texts.result ends.files.now ends.input.now ends.out.now ends.err.now
     (by-search c.args.plan words files (g.F.FileSet.tells ends.files.now) now (g.S.Source.tells ends.input.now) (g.F.FileSet.tells c.add_files.new.files) mid c.in_ok-texts.texts c.add_files.new.texts c.add_files.new.is_used
     out err_old err_mid (printed (g.O.Sink.tells ends.out.now) (g.E.Sink.tells ends.err.now)) c.grep_by_texts.result c.in_ok-texts.ensures.ok
-    c.in_ok-add_files.ensures.files c.in_ok-add_files.ensures.later c.grep_by_texts.ensures.later
+    c.in_ok-add_files.ensures.files c.in_ok-add_files.ensures.later c.grep_by_texts.ensures.later c.in_ok-add_files.ensures.unused
     (subst (λ all. AddsAllFrom c.args.plan files.contents files.faults (g.F.FileSet.tells c.add_files.new.files).faults false c.add_files.new.is_used now mid c.in_ok-texts.texts c.add_files.new.texts err_old err_mid (Ok all)) c.if-not-branch.false c.in_ok-add_files.ensures.adds)
     c.grep_by_texts.ensures.runs)
     (search rules) (search rules) (search rules) (search rules)

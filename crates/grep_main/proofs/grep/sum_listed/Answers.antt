@@ -1,8 +1,11 @@
-use Rattle.std.proofs.Common.{rules, arith, ◌≡◌, ◌+◌, ◌<◌, ◌^◌, refl, subst, ◌∙◌, take, drop, get_or, Ok, Err}
+use Rattle.std.proofs.Common.{rules, arith, ◌≡◌, ◌+◌, ◌<◌, ◌^◌, [], ◌∷◌, ◌++◌, refl, sym, subst, ◌∙◌, take, drop, get_or, Ok, Err}
 use Rattle.std.proofs.lemmas.List.{take_more, take_all}
 use Rattle.grep_core.specs.grep_match.Compiled.{patterns_in}
 use Rattle.grep_main.specs.Searches.{ReportsTargetFrom}
 use Rattle.grep_main.proofs.Summing.{Searched, searched-none, searched-next, searched-all, searched-stops, counts-bound, total-bound, told_of, list-parted}
+use Rattle.grep_main.specs.Leaves.{LeavesUnasked, Uses}
+use Rattle.tool_io.specs.Asked.{is_standard}
+use Rattle.grep_main.proofs.Tying.{unasked-front, unasked-join, unasked-uses}
 use Rattle.grep_main.proofs.grep.sum_listed.Goals as goal
 use Rattle.tool_io.specs.Printed.{printed}
 
@@ -12,6 +15,7 @@ loop-target-init g c = record {
       (g.E.Sink.tells c.args.io.now.err.now) c.new-state.result c.new-state.ensures;
   counts = omega arith;
   total = omega arith;
+  unused = λ none. refl;
   streams = (refl, refl, refl, refl);
   files = refl;
   later = omega arith;
@@ -91,6 +95,8 @@ loop-target-preserved g c =
           (take (i + 1) list) c.added-sum.result (take_more list i c.target-item.result c.loop-target-test.true) c.added-sum.ensures;
       counts = counts-bound plan sum c.added-sum.result end i c.added-sum.ensures had.counts;
       total = total-bound plan sum c.added-sum.result end i c.added-sum.ensures had.total small;
+      unused = subst (λ l. LeavesUnasked l (g.S.Source.tells c.args.io.now.input.now) after) (sym (take_more list i c.target-item.result c.loop-target-test.true))
+          (unasked-join (take i list) (target ∷ []) (g.S.Source.tells c.args.io.now.input.now) mid after had.unused (unasked-uses target mid_used is_used mid after came.uses));
       streams = let one = c.in_ok-end.ensures.streams in let before = had.streams in (one.0 ∙ before.0, one.1 ∙ before.1, one.2 ∙ before.2, one.3 ∙ before.3);
       files = c.in_ok-end.ensures.files ∙ had.files;
       later = let one = c.in_ok-end.ensures.later in let before = had.later in omega (arith, one, before);
@@ -113,3 +119,24 @@ returns-clause-sums g c =
     let all : take c.loop-target.target-index list ≡ list = take_all c.loop-target.target-index list (omega arith) in
     searched-all plan patterns contents (g.F.FileSet.tells c.args.io.now.files.now).faults was_used before out_old err_old list (g.F.FileSet.tells c.loop-target.io.files.now).faults is_used after c.loop-target.state c.loop-target.sum out err
     (subst (λ l. Searched plan patterns contents (g.F.FileSet.tells c.args.io.now.files.now).faults was_used before out_old err_old l (g.F.FileSet.tells c.loop-target.io.files.now).faults is_used after c.loop-target.state c.loop-target.sum out err) all c.loop-target.invariant.searched)
+
+pub returns-in_err-end-clause-unused : goal.returns-in_err-end-clause-unused
+returns-in_err-end-clause-unused g c =
+    let list = c.args.list.now in
+    let i = c.loop-target.target-index in
+    let target = get_or list i c.target-item.result in
+    let mid_used = c.loop-target.io.is_used in
+    let is_used = c.grep_target.new.io.is_used in
+    let before = g.S.Source.tells c.args.io.now.input.now in
+    let mid = g.S.Source.tells c.loop-target.io.input.now in
+    let after = g.S.Source.tells c.grep_target.new.io.input.now in
+    let uses = subst (λ t. Uses (is_standard t) mid_used is_used mid after) c.target-item.is c.in_err-end.ensures.reports.uses in
+    let joined = unasked-join (take i list) (target ∷ []) before mid after c.loop-target.invariant.unused (unasked-uses target mid_used is_used mid after uses) in
+    subst (λ l. LeavesUnasked l before after) (list-parted list i c.target-item.result c.loop-target-test.true)
+    (unasked-front (take i list ++ target ∷ []) (drop (i + 1) list) before after after joined)
+
+pub returns-clause-unused : goal.returns-clause-unused
+returns-clause-unused g c =
+    let list = c.args.list.now in
+    let all : take c.loop-target.target-index list ≡ list = take_all c.loop-target.target-index list (omega arith) in
+    subst (λ l. LeavesUnasked l (g.S.Source.tells c.args.io.now.input.now) (g.S.Source.tells c.loop-target.io.input.now)) all c.loop-target.invariant.unused

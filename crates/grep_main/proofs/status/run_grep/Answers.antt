@@ -1,4 +1,4 @@
-use Rattle.std.proofs.Common.{map, string_bytes, arith}
+use Rattle.std.proofs.Common.{map, string_bytes, refl}
 use Rattle.tool_io.specs.Printed.{printed}
 use Rattle.grep_main.specs.ToolText.{text_of}
 use Rattle.grep_main.proofs.Saying.{runs-whole, runs-many, runs-lacked, runs-refused}
@@ -17,7 +17,8 @@ returns-in-Ok-clause-text g c =
           given,
           runs.2.2.1,
           runs-whole (map string_bytes c.args.words.now) given c.in-Ok.status (g.O.Sink.tells c.args.out.now) (g.O.Sink.tells c.grep.new.out) (g.E.Sink.tells c.args.err.now) (g.E.Sink.tells c.grep.new.err) runs.2.2.2,
-          record { absent = runs.2.2.3.absent; leaves = λ few. runs.2.2.3.leaves },
+          record { absent = runs.2.2.3.absent; leaves = λ other. runs.2.2.3.leaves },
+          runs.2.2.4,
         ),
       ),
     )
@@ -31,7 +32,7 @@ returns-in-Err-Memory-clause-text g c =
     let new = printed (g.O.Sink.tells c.grep.new.out) (g.E.Sink.tells c.grep.new.err) in (
       runs.0,
       runs.1,
-      (runs.2.0, runs.2.1, (given, runs.2.2.1, runs-lacked (text_of words given) old new runs.2.2.2, record { absent = runs.2.2.3.absent; leaves = λ few. absurd (omega arith) })),
+      (runs.2.0, runs.2.1, (given, runs.2.2.1, runs-lacked (text_of words given) old new runs.2.2.2, record { absent = runs.2.2.3.absent; leaves = λ other. absurd (other refl) }, runs.2.2.4)),
     )
 
 pub returns-in-Err-SinkFault-clause-text : goal.returns-in-Err-SinkFault-clause-text
@@ -43,7 +44,7 @@ returns-in-Err-SinkFault-clause-text g c =
     let new = printed (g.O.Sink.tells c.grep.new.out) (g.E.Sink.tells c.grep.new.err) in (
       runs.0,
       runs.1,
-      (runs.2.0, runs.2.1, (given, runs.2.2.1, runs-refused (text_of words given) old new runs.2.2.2, record { absent = runs.2.2.3.absent; leaves = λ few. absurd (omega arith) })),
+      (runs.2.0, runs.2.1, (given, runs.2.2.1, runs-refused (text_of words given) old new runs.2.2.2, record { absent = runs.2.2.3.absent; leaves = λ other. runs.2.2.3.leaves }, runs.2.2.4)),
     )
 
 pub returns-in-Err-TooManyErrors-clause-text : goal.returns-in-Err-TooManyErrors-clause-text
@@ -55,5 +56,5 @@ returns-in-Err-TooManyErrors-clause-text g c =
     let new = printed (g.O.Sink.tells c.grep.new.out) (g.E.Sink.tells c.grep.new.err) in (
       runs.0,
       runs.1,
-      (runs.2.0, runs.2.1, (given, runs.2.2.1, runs-many (text_of words given) old new runs.2.2.2, record { absent = runs.2.2.3.absent; leaves = λ few. runs.2.2.3.leaves })),
+      (runs.2.0, runs.2.1, (given, runs.2.2.1, runs-many (text_of words given) old new runs.2.2.2, record { absent = runs.2.2.3.absent; leaves = λ other. runs.2.2.3.leaves }, runs.2.2.4)),
     )

@@ -6,7 +6,8 @@ use Rattle.tool_io.proofs.Taking.{opened-heard, opened-any}
 use Rattle.tool_io.specs.Printed.{printed}
 use Rattle.test_main.specs.RunsBy.{RunsBy}
 use Rattle.test_main.specs.ToolText.{message_on, text_on, file_given}
-use Rattle.test_main.proofs.Running.{said-whole, said-part, lacks, opened-missing}
+use Rattle.test_main.specs.Opens.{AreGiven}
+use Rattle.test_main.proofs.Running.{said-whole, said-part, lacks, opened-missing, given-opened, unless-any}
 use Rattle.test_main.proofs.run.run_file.Goals as goal
 
 pub returns-in-Ok-clause-runs : goal.returns-in-Ok-clause-runs
@@ -16,6 +17,8 @@ returns-in-Ok-clause-runs g c =
       opened-heard (g.F.FileSet.tells c.args.files.now).contents c.args.name.now (g.F.Src.Source.tells c.in-Ok.source) (g.F.Src.Source.tells c.run_source.new.source) r.0 c.in-Ok.ensures.opened r.1,
       r.2,
       absent-there (g.F.FileSet.tells c.args.files.now).contents (g.F.FileSet.tells c.args.files.now).faults (g.F.FileSet.tells c.open_file.new.self).faults (targets.File c.args.name.now) r.0,
+      unless-any c.run_source.result (AreGiven g.F.Src.Source.tells (g.F.FileSet.tells c.args.files.now).contents (file_given c.args.name.now (Some r.0)))
+          (given-opened g.F.Src.Source.tells (g.F.FileSet.tells c.args.files.now).contents c.args.name.now c.in-Ok.source c.run_source.new.source r.0 c.in-Ok.ensures.opened r.1),
     )
 
 pub returns-in_ok-write_message-in-Err-Failed-clause-runs : goal.returns-in_ok-write_message-in-Err-Failed-clause-runs
@@ -27,6 +30,7 @@ returns-in_ok-write_message-in-Err-Failed-clause-runs g c =
       opened-missing contents name missing,
       said-whole (message_on name (codes "cannot be opened")) 1 (omega arith) (g.O.Sink.tells c.args.out.now) (g.E.Sink.tells c.args.err.now) (g.E.Sink.tells c.write_message.new.err) _ c.in_ok-write_message-in-Err-Failed.ensures,
       absent-rose contents (g.F.FileSet.tells c.args.files.now).faults (g.F.FileSet.tells c.open_file.new.self).faults (file_given name None) (c.in-Err-Failed.ensures.cause.failed (search rules)),
+      (tt, tt),
     )
 
 pub returns-in_err-write_message-in-Err-Failed-clause-runs : goal.returns-in_err-write_message-in-Err-Failed-clause-runs
@@ -44,6 +48,7 @@ returns-in_err-write_message-in-Err-Failed-clause-runs g c =
       subst (RunsBy (text_on c.args.plan.now name None) (printed out err) (printed out err_new)) (sym same)
           (said-part (message_on name (codes "cannot be opened")) 1 (omega arith) out err err_new e c.in_err-write_message-in-Err-Failed.ensures),
       absent-rose contents (g.F.FileSet.tells c.args.files.now).faults (g.F.FileSet.tells c.open_file.new.self).faults (file_given name None) (c.in-Err-Failed.ensures.cause.failed (search rules)),
+      unless-any c.from_residual.result (AreGiven g.F.Src.Source.tells contents (file_given name None)) (tt, tt),
     )
 
 pub returns-in-Err-Memory-clause-runs : goal.returns-in-Err-Memory-clause-runs
@@ -53,4 +58,5 @@ returns-in-Err-Memory-clause-runs g c =
       any.1,
       lacks (text_on c.args.plan.now c.args.name.now any.0) (printed (g.O.Sink.tells c.args.out.now) (g.E.Sink.tells c.args.err.now)),
       opened-there (g.F.FileSet.tells c.args.files.now).contents (g.F.FileSet.tells c.args.files.now).faults (g.F.FileSet.tells c.open_file.new.self).faults c.args.name.now,
+      tt,
     )
