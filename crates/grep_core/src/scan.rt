@@ -89,8 +89,8 @@ pub(crate) enum Came {
     Done(Option<Ended>),
 }
 
-// So many lines are taken before a filter is made, which takes some tenths of a millisecond: many files have fewer.
-const LATE: u64 = 1_000;
+// So many lines are taken before a filter is made, since that takes as long as the scan of some: most files have fewer.
+const LATE: u64 = 20_000;
 
 // The match errors of a run that end it.
 const MANY_ERRORS: u32 = 21;
