@@ -26,7 +26,7 @@ ghost use Rattle.grep_watch.specs.Watched.{Watches};
 ghost use Rattle.grep_watch.specs.Filtered.{Sifts, Filters};
 ghost use Rattle.pat_tree.specs.Pattern.{Pattern};
 ghost use Rattle.grep_args.specs.declared.plan.GrepPlan.{GrepPlan};
-ghost use Rattle.grep_core.specs.Underway.{IsReady, Origin, StandsAt, TakesPart};
+ghost use Rattle.grep_core.specs.Underway.{IsReady, Origin, StandsAt, TakesPart, began_at};
 ghost use Rattle.grep_core.specs.Unseen.{HidesUnmatched, PassesUnseen, KeepsUnmatched, PrintsUnmatched};
 ghost use Rattle.grep_core.specs.Kept.{KeepsLines};
 ghost use Rattle.line_feed.specs.Passes.{HoldsLines};
@@ -754,6 +754,51 @@ fn take_until<S: Source, O: Sink, E: Sink>(
     Ok(Came::Far)
 }
 
+// Takes the lines behind the first ones, by a filter where there is one. It isn't inlined, since a filter is large.
+#[inline(never)]
+fn take_rest<S: Source, O: Sink, E: Sink>(
+    job: &Job<'_>,
+    feed: &mut LineFeed,
+    source: &mut S,
+    out: &mut O,
+    err: &mut E,
+    work: &mut Workspace,
+    state: &mut State,
+    course: &mut Course,
+    watch: Watch,
+) -> Result<Option<Ended>, Stop>
+    requires { IsReady job.now feed.old course.old state.old watch }
+    ensures live { result ≡ Ok None → feed.new.phase ≢ Closed }
+    ensures taken { (from : Origin) → IsJob job.now.plan.now from.treated job.now.show
+        job.now.most from.feed
+        → StandsAt (work_of job.now) job.now.most from
+        (position (fed feed.old (S.tells source.old))
+        (progress course.old state.old (printed (O.tells out.old) (E.tells err.old))))
+        → TakesAll (work_of job.now) job.now.most from.treated (began_at from)
+        (position (fed feed.new (S.tells source.new))
+        (progress course.new state.new (printed (O.tells out.new) (E.tells err.new)))) result }
+{
+    let sieve = Sieve::new(job.alloc, job.plan, job.patterns, &watch);
+    let mut filter = filter_by(job.alloc, &sieve);
+    let mut watch = watch_under(&filter, watch);
+    match take_until(
+        job,
+        feed,
+        source,
+        out,
+        err,
+        work,
+        state,
+        course,
+        &mut watch,
+        &mut filter,
+        u64::MAX,
+    )? {
+        Came::Done(ended) => Ok(ended),
+        Came::Far => unreachable!(),
+    }
+}
+
 // Takes lines up to the last one that may be selected, or to the end. Says how the scan ends where it ends there.
 fn take_lines<S: Source, O: Sink, E: Sink>(
     job: &Job<'_>,
@@ -792,25 +837,7 @@ fn take_lines<S: Source, O: Sink, E: Sink>(
         Came::Done(ended) => return Ok(ended),
         Came::Far => {}
     }
-    let sieve = Sieve::new(job.alloc, job.plan, job.patterns, &watch);
-    let mut filter = filter_by(job.alloc, &sieve);
-    let mut watch = watch_under(&filter, watch);
-    match take_until(
-        job,
-        feed,
-        source,
-        out,
-        err,
-        work,
-        state,
-        course,
-        &mut watch,
-        &mut filter,
-        u64::MAX,
-    )? {
-        Came::Done(ended) => Ok(ended),
-        Came::Far => unreachable!(),
-    }
+    take_rest(job, feed, source, out, err, work, state, course, watch)
 }
 
 /// Scans the lines of an input, and writes what is shown of them.

@@ -50,26 +50,19 @@ returns-in-Done-clause-taken g c = λ before treated job stood.
     rw c.in-Done.is at (c.in_ok-ended.ensures.taken from job
     (standing-begun _ _ treated _ before _ _ _ _ _ job stood c.requires.selected c.requires.context c.requires.earlier c.requires.errors))
 
-pub returns-in_err-ended-2-clause-taken : goal.returns-in_err-ended-2-clause-taken
-returns-in_err-ended-2-clause-taken g c = λ before treated job stood.
-    let job_is = c.args.job.now in
-    let out = g.O.Sink.tells c.args.out.now in
-    let err = g.E.Sink.tells c.args.err.now in
-    let from : Origin = record { treated = treated; before = before; feed = c.args.feed.now; course = c.args.course.now; state = c.args.state.now; out = out; err = err } in
-    let stop = c.in_err-ended-2.field-0.0 in
-    let same : c.from_residual-in_err-ended-2.result ≡ Err stop = search rules in
-    let stands = rw c.in-Far.is at (c.in_ok-ended.ensures.taken from job
-    (standing-begun _ _ treated _ before _ _ _ _ _ job stood c.requires.selected c.requires.context c.requires.earlier c.requires.errors)) in
-    subst
-    (TakesAll (work_of job_is) job_is.most treated (position (fed c.args.feed.now before) (progress c.args.course.now c.args.state.now (printed out err)))
-    (position (fed c.take_until-2.new.feed (g.S.Source.tells c.take_until-2.new.source)) (progress c.take_until-2.new.course c.take_until-2.new.state (printed (g.O.Sink.tells c.take_until-2.new.out) (g.E.Sink.tells c.take_until-2.new.err)))))
-    (sym same) (c.in_err-ended-2.ensures.taken from job stands)
-
 pub returns-clause-taken : goal.returns-clause-taken
 returns-clause-taken g c = λ before treated job stood.
     let out = g.O.Sink.tells c.args.out.now in
     let err = g.E.Sink.tells c.args.err.now in
-    let from : Origin = record { treated = treated; before = before; feed = c.args.feed.now; course = c.args.course.now; state = c.args.state.now; out = out; err = err } in
+    let from : Origin = record {
+      treated = treated;
+      before = before;
+      feed = c.args.feed.now;
+      course = c.args.course.now;
+      state = c.args.state.now;
+      out = out;
+      err = err;
+    } in
     let stands = rw c.in-Far.is at (c.in_ok-ended.ensures.taken from job
     (standing-begun _ _ treated _ before _ _ _ _ _ job stood c.requires.selected c.requires.context c.requires.earlier c.requires.errors)) in
-    rw c.in-Done-2.is at (c.in_ok-ended-2.ensures.taken from job stands)
+    c.take_rest.ensures.taken from job stands
