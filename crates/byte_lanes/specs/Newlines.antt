@@ -1,6 +1,7 @@
 -- The texts that end a line, and the longest that begins at a place or ends there.
 -- pcre2pattern, "Newline conventions", has the conventions, and pcre2api, "Newlines", the Unicode newlines.
-use Rattle.std.specs.Prelude.{ℕ, ◌+◌, ◌-◌, ◌==◌, nat_lt, nat_le, Bool, true, false, ◌&&◌, List, [], ◌∷◌, length, slice_index, max, if◌then◌else◌}
+use Rattle.std.specs.Prelude.{ℕ, ◌+◌, ◌-◌, ◌==◌, nat_lt, nat_le, Bool, true, false, ◌&&◌, List, [], ◌∷◌, length}
+use Rattle.std.specs.Prelude.{slice_index, max, if◌then◌else◌}
 use Rattle.byte_lanes.specs.declared.line_end.EndKind.{EndKind}
 use Rattle.byte_lanes.specs.declared.line_end.EndKind.TheVariants.{Cr, Lf, CrLf, AnyCrLf, Any, AnyUtf, Nul}
 
@@ -39,7 +40,8 @@ any_texts = (13 ∷ (10 ∷ [])) ∷ ((10 ∷ []) ∷ ((11 ∷ []) ∷ ((12 ∷ 
 -- U+2028, U+2029, CR LF, U+0085, LF, VT, FF, CR in UTF-8
 abbrev pub any_utf_texts : List (List ℕ)
 any_utf_texts =
-    (226 ∷ (128 ∷ (168 ∷ []))) ∷ ((226 ∷ (128 ∷ (169 ∷ []))) ∷ ((13 ∷ (10 ∷ [])) ∷ ((194 ∷ (133 ∷ [])) ∷ ((10 ∷ []) ∷ ((11 ∷ []) ∷ ((12 ∷ []) ∷ ((13 ∷ []) ∷ [])))))))
+    (226 ∷ (128 ∷ (168 ∷ []))) ∷ ((226 ∷ (128 ∷ (169 ∷ [])))
+    ∷ ((13 ∷ (10 ∷ [])) ∷ ((194 ∷ (133 ∷ [])) ∷ ((10 ∷ []) ∷ ((11 ∷ []) ∷ ((12 ∷ []) ∷ ((13 ∷ []) ∷ [])))))))
 
 -- the newlines of a kind
 abbrev pub newline_texts : EndKind → List (List ℕ)

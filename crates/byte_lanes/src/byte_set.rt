@@ -1,5 +1,6 @@
 // Sets of bytes.
-ghost use Rattle.std.specs.Prelude.{◌≡◌, ℕ, ◌<◌, ◌==◌, ◌||◌, List, Bool, true, false, IfSome, length, slice_index, bit_or};
+ghost use Rattle.std.specs.Prelude.{◌≡◌, ℕ, ◌<◌, ◌==◌, ◌||◌, List, Bool, true, false, IfSome, length, slice_index};
+ghost use Rattle.std.specs.Prelude.{bit_or};
 ghost use Rattle.byte_lanes.specs.Lanes.{HasLanes};
 ghost use Rattle.byte_lanes.specs.Members.{AreMembers};
 ghost use Rattle.byte_lanes.specs.Sets.{flags, flag, has_byte};

@@ -22,8 +22,9 @@ fn with_digit(number: u32, radix: u32, digit: u8) -> Option<u32>
     }
 }
 
-/// The number that digits write in a radix of at most 36, with or without zeros before it. None exactly where it is past
-/// 4,294,967,295; 0 without digits. The bytes are meant to be digits of the radix: one that isn't counts by its `digit_value`.
+/// The number that digits write in a radix of at most 36, with or without zeros before it. None exactly where it is
+/// past 4,294,967,295; 0 without digits. The bytes are meant to be digits of the radix: one that isn't counts by its
+/// `digit_value`.
 pub fn number(digits: &[u8], radix: u32) -> Option<u32>
     requires some { 1 ≤ radix }
     requires few { radix ≤ 36 }

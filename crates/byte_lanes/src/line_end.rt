@@ -1,7 +1,8 @@
 // Newlines of a kind, and the first at or past a place.
 ghost use Rattle.std.specs.Prelude.{◌≡◌, ◌+◌, ◌<◌, ◌≤◌, ◌∷◌, [], nat_lt, length};
 ghost use Rattle.byte_lanes.specs.Places.{IsLeast, least_from};
-ghost use Rattle.byte_lanes.specs.Newlines.{newline_len, has_crlf, longest, stands, crlf_texts, any_crlf_texts, any_texts, any_utf_texts};
+ghost use Rattle.byte_lanes.specs.Newlines.{newline_len, has_crlf, longest, stands, crlf_texts, any_crlf_texts};
+ghost use Rattle.byte_lanes.specs.Newlines.{any_texts, any_utf_texts};
 
 use crate::lanes::{at_least, at_most, both, either, equal_to, load};
 use crate::scan;

@@ -9,7 +9,8 @@ ghost use Rattle.pcre2_api.specs.Matched.{search_of, IsMatchError};
 ghost use Rattle.pcre2_api.specs.Captured.{top_of, mark_of};
 ghost use Rattle.pcre2_api.specs.DfaMatched.{IsDfaFound, IsDfaError};
 ghost use Rattle.pcre2_api.specs.Substituted.{substituted};
-ghost use Rattle.c_door.specs.Telling.{IsTold, IsMark, ArePlaces, IsText, IsName, told_of, IsEnds, AreEnds, end_at, IsReplaced};
+ghost use Rattle.c_door.specs.Telling.{IsTold, IsMark, ArePlaces, IsText, IsName, told_of, IsEnds, AreEnds, end_at};
+ghost use Rattle.c_door.specs.Telling.{IsReplaced};
 
 use crate::texts::{put, put_mark, put_text};
 use crate::told::{

@@ -8,7 +8,8 @@ ghost use Rattle.pcre2_api.specs.match_starts.Asked.{passed_over};
 ghost use Rattle.pcre2_api.specs.Matched.{search_of};
 ghost use Rattle.pcre2_api.specs.Substituted.{substituted};
 ghost use Rattle.c_door.specs.Asking.{options_of, match_options_of, subst_options_of};
-ghost use Rattle.c_door.specs.Telling.{IsHeld, IsCompiled, IsAnswer, IsEnds, IsReplaced, IsShared, IsText, IsName, IsPut, told_of};
+ghost use Rattle.c_door.specs.Telling.{IsHeld, IsCompiled, IsAnswer, IsEnds, IsReplaced, IsShared, IsText, IsName};
+ghost use Rattle.c_door.specs.Telling.{IsPut, told_of};
 
 use crate::asked::{Asked, MatchAsked, SubstAsked, match_options_of, options_of, subst_options_of};
 use crate::engine::Engine;

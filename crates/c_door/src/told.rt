@@ -1,6 +1,7 @@
 //! What C is told.
 ghost use Rattle.std.specs.Prelude.{◌≡◌};
-ghost use Rattle.c_door.specs.Telling.{error_code, answer_of, pair_of, newline_number, bsr_number, or_zero, told_by, place_told, mark_told, ends_place, ends_answer, subst_answer};
+ghost use Rattle.c_door.specs.Telling.{error_code, answer_of, pair_of, newline_number, bsr_number, or_zero, told_by};
+ghost use Rattle.c_door.specs.Telling.{place_told, mark_told, ends_place, ends_answer, subst_answer};
 
 use pcre2_api::{
     Bsr, DfaError, DfaFound, Info, MatchError, NameTable, Newline, Options, Span, SubstError,

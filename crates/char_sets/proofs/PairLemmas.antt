@@ -1,5 +1,6 @@
 -- Pairs of characters that fold alike, which rise by their first characters.
-use Rattle.std.proofs.Common.{◌≡◌, ℕ, zero, suc, ◌<◌, ◌≤◌, Bool, true, false, ◌||◌, ◌&&◌, ◌==◌, nat_lt, List, [], ◌∷◌, length, get_or, refl, sym, ap, subst, ◌∙◌, arith, Contains}
+use Rattle.std.proofs.Common.{◌≡◌, ℕ, zero, suc, ◌<◌, ◌≤◌, Bool, true, false, ◌||◌, ◌&&◌, ◌==◌, nat_lt, List, []}
+use Rattle.std.proofs.Common.{◌∷◌, length, get_or, refl, sym, ap, subst, ◌∙◌, arith, Contains}
 use Rattle.std.proofs.lemmas.Bool.{and_parts}
 use Rattle.std.proofs.lemmas.Bool.Decides.{nat_tests}
 use Rattle.std.proofs.lemmas.List.Folds.{list_any_at}
@@ -16,7 +17,8 @@ pair_has from to c pair = pair.0 == c && is_in_range from to pair.1
 first_after : (p q : ℕ × ℕ) → ((nat_lt p.0 q.0 || ((p.0 == q.0) && nat_lt p.1 q.1)) ≡ true) → p.0 ≤ q.0
 first_after p q h = grind (arith, nat_tests)
 
-rise_on : (last : ℕ × ℕ) (pairs : List (ℕ × ℕ)) (k : ℕ) (d : ℕ × ℕ) → pairs_rise last pairs ≡ true → k < length pairs → last.0 ≤ (get_or pairs k d).0
+rise_on : (last : ℕ × ℕ) (pairs : List (ℕ × ℕ)) (k : ℕ) (d : ℕ × ℕ) → pairs_rise last pairs ≡ true → k < length pairs
+    → last.0 ≤ (get_or pairs k d).0
 unfolding pairs_rise
 rise_on last [] k d h lt = absurd (omega arith)
 rise_on last (p ∷ ps) zero d h lt = first_after last p (and_parts _ _ h).0
@@ -26,13 +28,18 @@ rise_on last (p ∷ ps) (suc k) d h lt =
     let rest : p.0 ≤ (get_or ps k d).0 = rise_on p ps k d parts.1 (omega arith) in
     omega (arith, first, rest)
 
-rise : (last : ℕ × ℕ) (pairs : List (ℕ × ℕ)) → pairs_rise last pairs ≡ true → IsNonDecreasingBy (λ (pair : ℕ × ℕ). pair.0) pairs
+rise : (last : ℕ × ℕ) (pairs : List (ℕ × ℕ)) → pairs_rise last pairs ≡ true
+    → IsNonDecreasingBy (λ (pair : ℕ × ℕ). pair.0) pairs
 unfolding pairs_rise
 rise last [] h i j d le lt = absurd (omega arith)
 rise last (p ∷ ps) h zero zero d le lt = omega arith
-rise last (p ∷ ps) h zero (suc j) d le lt = rise_on p ps j d (and_parts (nat_lt last.0 p.0 || ((last.0 == p.0) && nat_lt last.1 p.1)) (pairs_rise p ps) h).1 (omega arith)
+rise last (p ∷ ps) h zero (suc j) d le lt =
+    rise_on p ps j d (and_parts (nat_lt last.0 p.0 || ((last.0 == p.0) && nat_lt last.1 p.1)) (pairs_rise p ps) h).1
+    (omega arith)
 rise last (p ∷ ps) h (suc i) zero d le lt = absurd (omega arith)
-rise last (p ∷ ps) h (suc i) (suc j) d le lt = rise p ps (and_parts (nat_lt last.0 p.0 || ((last.0 == p.0) && nat_lt last.1 p.1)) (pairs_rise p ps) h).1 i j d (omega arith) (omega arith)
+rise last (p ∷ ps) h (suc i) (suc j) d le lt =
+    rise p ps (and_parts (nat_lt last.0 p.0 || ((last.0 == p.0) && nat_lt last.1 p.1)) (pairs_rise p ps) h).1 i j d
+    (omega arith) (omega arith)
 
 pub fold_pairs-rise : IsNonDecreasingBy (λ (pair : ℕ × ℕ). pair.0) fold_pairs
 fold_pairs-rise = rise (0, 0) fold_pairs pairs_rise-fold_pairs

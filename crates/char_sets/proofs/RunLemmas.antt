@@ -1,5 +1,6 @@
 -- Runs that rise: how they are looked up, and joined.
-use Rattle.std.proofs.Common.{◌≡◌, ℕ, ◌+◌, ◌-◌, ◌<◌, ◌≤◌, Bool, true, false, ◌||◌, List, [], ◌∷◌, ◌++◌, length, get_or, max, All, refl, sym, ap, subst, ◌∙◌, arith, inl, inr, length-append}
+use Rattle.std.proofs.Common.{◌≡◌, ℕ, ◌+◌, ◌-◌, ◌<◌, ◌≤◌, Bool, true, false, ◌||◌, List, [], ◌∷◌, ◌++◌, length}
+use Rattle.std.proofs.Common.{get_or, max, All, refl, sym, ap, subst, ◌∙◌, arith, inl, inr, length-append}
 use Rattle.std.proofs.lemmas.Bool.{cases_lt}
 use Rattle.std.proofs.lemmas.Bool.Decides.{nat_tests}
 use Rattle.std.proofs.lemmas.List.{get_or_default}
@@ -25,7 +26,9 @@ after_it from to c high = grind (arith, nat_tests)
 pub before_it : (from to c : ℕ) → c < from → is_in_range from to c ≡ false
 before_it from to c low = grind (arith, nat_tests)
 
-module _ (runs : List Run) (c first : ℕ) (rising : IsRising runs) (below : (k : ℕ) (d : Run) → k < first → (get_or runs k d).to < c) (above : (k : ℕ) (d : Run) → first ≤ k → k < length runs → c ≤ (get_or runs k d).to) where
+module _ (runs : List Run) (c first : ℕ) (rising : IsRising runs)
+    (below : (k : ℕ) (d : Run) → k < first → (get_or runs k d).to < c)
+    (above : (k : ℕ) (d : Run) → first ≤ k → k < length runs → c ≤ (get_or runs k d).to) where
   -- the first run that does not end before c holds it, where it begins at or before it
   pub found : (d : Run) → first < length runs → (get_or runs first d).from ≤ c → runs_have runs c ≡ true
   found d lt reached = list_any_at (run_has c) runs first d lt (in_it _ _ c reached (above first d (omega arith) lt))
@@ -51,12 +54,24 @@ long xs y = length-append xs (y ∷ [])
 
 front_rises : (n : Run → ℕ) (xs : List Run) (y : Run) → IsNonDecreasingBy n (xs ++ y ∷ []) → IsNonDecreasingBy n xs
 front_rises n xs y rise i j d le lt =
-    omega (arith, rise i j d le (omega (arith, long xs y)), ap n (front_at xs y i d (omega arith)), ap n (front_at xs y j d lt))
+    omega (
+      arith,
+      rise i j d le (omega (arith, long xs y)),
+      ap n (front_at xs y i d (omega arith)),
+      ap n (front_at xs y j d lt),
+    )
 
 -- the last run may end later, and what comes before it stays
-grown_rises : (n : Run → ℕ) (xs : List Run) (y z : Run) → n y ≤ n z → IsNonDecreasingBy n (xs ++ y ∷ []) → IsNonDecreasingBy n (xs ++ z ∷ [])
+grown_rises : (n : Run → ℕ) (xs : List Run) (y z : Run) → n y ≤ n z → IsNonDecreasingBy n (xs ++ y ∷ [])
+    → IsNonDecreasingBy n (xs ++ z ∷ [])
 grown_rises n xs y z le rise = IsNonDecreasingBy-push n xs z (front_rises n xs y rise)
-    (λ d some. omega (arith, le, rise (length xs - 1) (length xs) d (omega arith) (omega (arith, long xs y)), ap n (front_at xs y (length xs - 1) d (omega arith)), ap n (get_or-append_seam xs y [] d)))
+    (λ d some. omega (
+      arith,
+      le,
+      rise (length xs - 1) (length xs) d (omega arith) (omega (arith, long xs y)),
+      ap n (front_at xs y (length xs - 1) d (omega arith)),
+      ap n (get_or-append_seam xs y [] d),
+    ))
 
 pub last_of : (P : Run → Type 0) (xs : List Run) (y : Run) → All P (xs ++ y ∷ []) → P y
 last_of P xs y all = subst P (get_or-append_seam xs y [] y) (all (length xs) y (omega (arith, long xs y)))
@@ -72,17 +87,20 @@ regroup false false true = refl
 regroup false false false = refl
 
 -- two runs that touch, as one
-both : (a b x y m c : ℕ) → a ≤ x → x ≤ y → x ≤ b + 1 → m ≡ max b y → is_in_range a m c ≡ (is_in_range a b c || is_in_range x y c)
+both : (a b x y m c : ℕ) → a ≤ x → x ≤ y → x ≤ b + 1 → m ≡ max b y
+    → is_in_range a m c ≡ (is_in_range a b c || is_in_range x y c)
 both a b x y m c first some touch is = grind (arith, nat_tests)
 
 ends_more : (b y m : ℕ) → m ≡ max b y → b ≤ m
 ends_more b y m is = omega (arith, is)
 
-module _ (before : List Run) (last next : Run) (m : ℕ) (first : last.from ≤ next.from) (some : next.from ≤ next.to) (touch : next.from ≤ last.to + 1) (is : m ≡ max last.to next.to) where
+module _ (before : List Run) (last next : Run) (m : ℕ) (first : last.from ≤ next.from) (some : next.from ≤ next.to)
+    (touch : next.from ≤ last.to + 1) (is : m ≡ max last.to next.to) where
   abbrev pub grown : Run
   grown = record { from = last.from; to = m }
 
-  pub joined_has : (c : ℕ) → runs_have (before ++ grown ∷ []) c ≡ (runs_have (before ++ last ∷ []) c || is_in_range next.from next.to c)
+  pub joined_has : (c : ℕ) → runs_have (before ++ grown ∷ [])
+      c ≡ (runs_have (before ++ last ∷ []) c || is_in_range next.from next.to c)
   joined_has c =
       list_any-append (run_has c) before (grown ∷ [])
       ∙ ap (λ b. runs_have before c || (b || false)) (both last.from last.to next.from next.to m c first some touch is)

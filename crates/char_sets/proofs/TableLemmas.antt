@@ -1,5 +1,6 @@
 -- A table that grows by one class.
-use Rattle.std.proofs.Common.{◌≡◌, ℕ, ◌<◌, ◌≤◌, ◌∷◌, ◌++◌, [], List, length, get_or, Some, ap, subst, sym, refl, ◌∙◌, slice_get, arith, cond, true, false, nat_lt, inl, inr}
+use Rattle.std.proofs.Common.{◌≡◌, ℕ, ◌<◌, ◌≤◌, ◌∷◌, ◌++◌, [], List, length, get_or, Some, ap, subst, sym, refl, ◌∙◌}
+use Rattle.std.proofs.Common.{slice_get, arith, cond, true, false, nat_lt, inl, inr}
 use Rattle.std.proofs.lemmas.Bool.{cases_lt}
 use Rattle.std.proofs.lemmas.List.{get_or_past}
 use Rattle.std.proofs.Math.ListN.{get_or-append}
@@ -12,18 +13,23 @@ use Rattle.byte_lanes.specs.Sets.{has_byte}
 use Rattle.char_sets.specs.Table.{CharSet, char_in, table_has, no_chars, IsTableOf}
 
 -- a class that was there is found as before
-pub table_has-before : (old : List CharSet) (e : CharSet) (class c : ℕ) → class < length old → table_has (old ++ e ∷ []) class c ≡ table_has old class c
+pub table_has-before : (old : List CharSet) (e : CharSet) (class c : ℕ) → class < length old
+    → table_has (old ++ e ∷ []) class c ≡ table_has old class c
 unfolding table_has
 table_has-before old e class c l = ap (λ s. char_in s c) (get_or-append old (e ∷ []) no_chars class l)
 
 -- and so is the new one
-pub table_has-newest : (old : List CharSet) (e : CharSet) (id c : ℕ) → length old ≡ id → table_has (old ++ e ∷ []) id c ≡ char_in e c
+pub table_has-newest : (old : List CharSet) (e : CharSet) (id c : ℕ) → length old ≡ id
+    → table_has (old ++ e ∷ []) id c ≡ char_in e c
 unfolding table_has
-table_has-newest old e id c count = subst (λ k. char_in (get_or (old ++ e ∷ []) k no_chars) c ≡ char_in e c) count (ap (λ s. char_in s c) (get_or-append_seam old e [] no_chars))
+table_has-newest old e id c count = subst (λ k. char_in (get_or (old ++ e ∷ []) k no_chars) c ≡ char_in e c) count
+    (ap (λ s. char_in s c) (get_or-append_seam old e [] no_chars))
 
-pub class_has-found : (tree : TreeParts) (id c : ℕ) (class : ClassSpec) → slice_get tree.classes id ≡ Some class → class_has tree id c ≡ takes tree.options.utf class c
+pub class_has-found : (tree : TreeParts) (id c : ℕ) (class : ClassSpec) → slice_get tree.classes id ≡ Some class
+    → class_has tree id c ≡ takes tree.options.utf class c
 unfolding class_has
-class_has-found tree id c class is = ap (λ s. takes tree.options.utf s c) (get_or_from_slice_get tree.classes id class no_class is)
+class_has-found tree id c class is = ap (λ s. takes tree.options.utf s c)
+    (get_or_from_slice_get tree.classes id class no_class is)
 
 no_chars-take : (c : ℕ) → char_in no_chars c ≡ false
 no_chars-take c = elim (nat_lt c 256) as (λ b. cond b (has_byte [] c) false ≡ false) [ true ↦ refl | false ↦ refl ]
@@ -38,7 +44,8 @@ unfolding class_has
 class_has-past tree class c past = ap (λ s. takes tree.options.utf s c) (get_or_past tree.classes class no_class past)
 
 -- a table that answers for each class of the tree answers for every number
-pub IsTableOf-whole : (tree : TreeParts) (table : List CharSet) (n : ℕ) → length table ≡ n → n ≡ length tree.classes → ((class : ℕ) → class < n → (c : ℕ) → table_has table class c ≡ class_has tree class c) → IsTableOf tree table
+pub IsTableOf-whole : (tree : TreeParts) (table : List CharSet) (n : ℕ) → length table ≡ n → n ≡ length tree.classes
+    → ((class : ℕ) → class < n → (c : ℕ) → table_has table class c ≡ class_has tree class c) → IsTableOf tree table
 IsTableOf-whole tree table n count all each = record {
   count = count ∙ all;
   answers = λ class c. elim (cases_lt class n) [

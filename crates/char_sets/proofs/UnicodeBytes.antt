@@ -1,5 +1,6 @@
 -- Which bytes are digits, spaces and of words with UCP: each byte is asked of the tables.
-use Rattle.std.proofs.Common.{◌≡◌, ℕ, zero, suc, ◌<◌, Bool, true, false, ◌||◌, ◌&&◌, ◌==◌, refl, sym, subst, arith, eqb-true}
+use Rattle.std.proofs.Common.{◌≡◌, ℕ, zero, suc, ◌<◌, Bool, true, false, ◌||◌, ◌&&◌, ◌==◌, refl, sym, subst, arith}
+use Rattle.std.proofs.Common.{eqb-true}
 use Rattle.std.proofs.Math.Bool.{beq}
 use Rattle.std.proofs.lemmas.Bool.{and_parts}
 use Rattle.std.proofs.lemmas.Bool.Decides.{nat_tests}
@@ -36,7 +37,8 @@ space_below k = (set_has false Space k || k == 0x85) || k == 0xA0
 
 abbrev word_below : ℕ → Bool
 word_below k =
-    (((((((set_has false Word k || k == 0xAA) || is_in_range 0xB2 0xB3 k) || k == 0xB5) || is_in_range 0xB9 0xBA k) || is_in_range 0xBC 0xBE k) || is_in_range 0xC0 0xD6 k)
+    (((((((set_has false Word k || k == 0xAA) || is_in_range 0xB2 0xB3 k) || k == 0xB5) || is_in_range 0xB9 0xBA k)
+    || is_in_range 0xBC 0xBE k) || is_in_range 0xC0 0xD6 k)
     || is_in_range 0xD8 0xF6 k) || is_in_range 0xF8 0xFF k
 
 digits_below : same_below (set_has false Digit) (set_has true Digit) 256 ≡ true
@@ -58,6 +60,7 @@ pub space_is : (k : ℕ) → k < 256 → ((set_has false Space k || k == 0x85) |
 space_is k l = same_at space_below (set_has true Space) 256 k spaces_below l
 
 pub word_is : (k : ℕ) → k < 256 →
-    ((((((((set_has false Word k || k == 0xAA) || is_in_range 0xB2 0xB3 k) || k == 0xB5) || is_in_range 0xB9 0xBA k) || is_in_range 0xBC 0xBE k) || is_in_range 0xC0 0xD6 k)
+    ((((((((set_has false Word k || k == 0xAA) || is_in_range 0xB2 0xB3 k) || k == 0xB5) || is_in_range 0xB9 0xBA k)
+    || is_in_range 0xBC 0xBE k) || is_in_range 0xC0 0xD6 k)
     || is_in_range 0xD8 0xF6 k) || is_in_range 0xF8 0xFF k) ≡ set_has true Word k
 word_is k l = same_at word_below (set_has true Word) 256 k words_below l

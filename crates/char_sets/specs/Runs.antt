@@ -28,4 +28,5 @@ partner_has pairs from to c = list_any (λ (pair : ℕ × ℕ). is_in_range from
 
 -- c is the other case of one of ASCII's letters in the range
 abbrev pub letters_have : ℕ → ℕ → ℕ → Bool
-letters_have from to c = (is_in_range 97 122 c && is_in_range from to (c - 32)) || (is_in_range 65 90 c && is_in_range from to (c + 32))
+letters_have from to c = (is_in_range 97 122 c && is_in_range from to (c - 32))
+    || (is_in_range 65 90 c && is_in_range from to (c + 32))

@@ -1,11 +1,14 @@
--- Which characters a class takes (pcre2pattern, "Square brackets and character classes", "Generic character types", "POSIX character classes" and
--- "Unicode character properties"). Each named set is the row of its name in `uni_text`.
-use Rattle.std.specs.Prelude.{ℕ, ◌-◌, Bool, true, false, not, ◌&&◌, ◌||◌, ◌==◌, if◌then◌else◌, List, [], ◌∷◌, Option, Some, None, slice_index_or}
+-- Which characters a class takes (pcre2pattern, "Square brackets and character classes", "Generic character types",
+-- "POSIX character classes" and "Unicode character properties"). Each named set is the row of its name in `uni_text`.
+use Rattle.std.specs.Prelude.{ℕ, ◌-◌, Bool, true, false, not, ◌&&◌, ◌||◌, ◌==◌, if◌then◌else◌, List, [], ◌∷◌, Option}
+use Rattle.std.specs.Prelude.{Some, None, slice_index_or}
 use Rattle.std.specs.Int.{is_in_range}
 use Rattle.std.specs.List.{list_any}
 use Rattle.ucd_case.specs.CaseFolding.{fold_pairs}
 use Rattle.pat_tree.specs.declared.nodes.SetName.{SetName}
-use Rattle.pat_tree.specs.declared.nodes.SetName.TheVariants.{Digit, Space, Word, Alpha, Alnum, Lower, Upper, Blank, Cntrl, Graph, Print, Punct, Ascii, Xdigit, H, V, Property}
+use Rattle.pat_tree.specs.declared.nodes.SetName.TheVariants.{Digit, Space, Word, Alpha, Alnum, Lower, Upper, Blank}
+use Rattle.pat_tree.specs.declared.nodes.SetName.TheVariants.{Cntrl, Graph, Print, Punct, Ascii, Xdigit, H, V}
+use Rattle.pat_tree.specs.declared.nodes.SetName.TheVariants.{Property}
 use Rattle.pat_tree.specs.declared.nodes.Part.{Part}
 use Rattle.pat_tree.specs.declared.nodes.Part.TheVariants.{Range, Set}
 use Rattle.pat_tree.specs.declared.nodes.ClassSpec.{ClassSpec}
@@ -50,7 +53,8 @@ any_case set = set
 abbrev pub two_cases : ℕ → List ℕ
 two_cases c = if is_letter c then ascii_fold c ∷ (ascii_fold c - 32) ∷ [] else c ∷ []
 
--- in UTF the pairs of characters with one simple folding tell it: some other character with the folding of c lies in the range
+-- in UTF the pairs of characters with one simple folding tell it: some other character with the folding of c lies in
+-- the range
 abbrev pub other_has : List (ℕ × ℕ) → ℕ → ℕ → ℕ → Bool
 other_has pairs from to c = list_any (λ (pair : ℕ × ℕ). pair.0 == c && is_in_range from to pair.1) pairs
 

@@ -9,7 +9,8 @@ use Rattle.char_sets.specs.Sets.{class_has}
 use Rattle.char_sets.specs.declared.named.NamedSet.{NamedSet}
 use Rattle.char_sets.specs.declared.runs.Run.{Run}
 
--- the characters of a class: a flag for each byte, and for the rest the runs and the sets that it takes, or negated leaves out
+-- the characters of a class: a flag for each byte, and for the rest the runs and the sets that it takes, or negated
+-- leaves out
 pub record CharSet : Type 0 where
   pub bytes : List Bool
   pub runs : List Run

@@ -12,8 +12,8 @@ use pat_tree::{ClassSpec, Memory};
 use std::alloc::Global;
 use std::marker::Model;
 
-/// The characters that one class takes: the bytes among them, and for the rest the runs and the sets that it takes, or under
-/// `negated` leaves out.
+/// The characters that one class takes: the bytes among them, and for the rest the runs and the sets that it takes, or
+/// under `negated` leaves out.
 #[derive(Drop)]
 pub(crate) struct Entry {
     bytes: ByteSet,

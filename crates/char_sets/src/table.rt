@@ -12,7 +12,8 @@ use std::alloc::Global;
 use std::marker::Model;
 use std::sync::ledger::Ledger;
 
-/// The classes of a tree, made for testing characters. A contract sees what each class keeps, and reads it by `table_has` alone.
+/// The classes of a tree, made for testing characters. A contract sees what each class keeps, and reads it by
+/// `table_has` alone.
 #[derive(Drop)]
 pub struct ClassTable {
     entries: Vec<Entry>,
@@ -30,8 +31,8 @@ impl Model for ClassTable {
 }
 
 impl ClassTable {
-    /// The table of a tree's classes (pcre2pattern, "Square brackets and character classes", "Generic character types", "POSIX character
-    /// classes" and "Unicode character properties"). Fails for want of memory alone.
+    /// The table of a tree's classes (pcre2pattern, "Square brackets and character classes", "Generic character types",
+    /// "POSIX character classes" and "Unicode character properties"). Fails for want of memory alone.
     pub fn build(alloc: Global, tree: &Tree) -> Result<ClassTable, Memory>
         ensures { IfOk result (IsTableOf tree.now) }
     {

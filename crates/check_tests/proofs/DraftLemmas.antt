@@ -23,19 +23,23 @@ pub last_free : (d : DraftParts) (front ks : List ℕ) → IsDraft d (front ++ k
 last_free d front ks h = last_fresh d.nodes front ks h.free
 
 -- a node that takes the last that wait
-pub draft_more : (d : DraftParts) (front : List ℕ) (p : Placed) → IsDraft d (front ++ kids_of p.node) → IsDraft (with_node d p) (front ++ length d.nodes ∷ [])
+pub draft_more : (d : DraftParts) (front : List ℕ) (p : Placed) → IsDraft d (front ++ kids_of p.node)
+    → IsDraft (with_node d p) (front ++ length d.nodes ∷ [])
 draft_more d front p h = record {
   free = replaces_push d.nodes p front h.free;
   below = rw (length-append d.nodes (p ∷ []))
       (All-append (λ k. k < length d.nodes + 1) front (length d.nodes ∷ [])
-      (All-weaker (λ k. k < length d.nodes) (λ k. k < length d.nodes + 1) (λ k l. omega (arith, l)) front (all_front (λ k. k < length d.nodes) front (kids_of p.node) h.below))
-      (All-cons (λ k. k < length d.nodes + 1) (length d.nodes) [] (omega arith) (All-nil (λ k. k < length d.nodes + 1))));
+      (All-weaker (λ k. k < length d.nodes) (λ k. k < length d.nodes + 1) (λ k l. omega (arith, l)) front
+      (all_front (λ k. k < length d.nodes) front (kids_of p.node) h.below))
+      (All-cons (λ k. k < length d.nodes + 1) (length d.nodes) [] (omega arith)
+      (All-nil (λ k. k < length d.nodes + 1))));
   classes = h.classes;
   names = h.names;
 }
 
 -- a draft begins with one class and no node
-pub draft_begun : (d : DraftParts) (class : ClassSpec) → d.nodes ≡ [] → d.classes ≡ [] → d.names ≡ [] → IsDraft (with_class d class) []
+pub draft_begun : (d : DraftParts) (class : ClassSpec) → d.nodes ≡ [] → d.classes ≡ [] → d.names ≡ []
+    → IsDraft (with_class d class) []
 unfolding loose loose_after
 draft_begun d class nodes classes names = record {
   free = ap loose nodes;

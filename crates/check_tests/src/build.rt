@@ -1,6 +1,7 @@
 //! Trees made step by step.
 ghost use Rattle.std.specs.Prelude.{◌≡◌, ◌≤◌, ◌<◌, ◌+◌, ◌∷◌, ◌++◌, [], All, IfOk, OnOk, false, length};
-ghost use Rattle.pat_tree.specs.Rules.{kids_of, asserted_by, classes_of, verb_names_of, numbers_of, IsNamed, IsOrdered, IsDefine};
+ghost use Rattle.pat_tree.specs.Rules.{kids_of, asserted_by, classes_of, verb_names_of, numbers_of, IsNamed};
+ghost use Rattle.pat_tree.specs.Rules.{IsOrdered, IsDefine};
 ghost use Rattle.check_tests.specs.Drafts.{IsDraft, IsPlainTest};
 
 use pat_tree::{
@@ -10,8 +11,8 @@ use pat_tree::{
 use std::alloc::Global;
 use std::test::Fail;
 
-/// One step in the making of a pattern: a node that takes the last ones that aren't taken yet. Its place is the number of
-/// the step.
+/// One step in the making of a pattern: a node that takes the last ones that aren't taken yet. Its place is the number
+/// of the step.
 #[derive(Clone, Copy)]
 pub(crate) enum Step {
     Empty,

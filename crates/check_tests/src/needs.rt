@@ -239,8 +239,8 @@ fn in_utf_the_byte_of_an_ascii_character_is_told(rt: HostRuntime) -> Result<(), 
         utf: true,
         ..Options::PLAIN
     };
-    // `a`, `(?i)@`, `(?i)b`, `(?i)k`, `(?i)S`, the Kelvin sign and the long s without regard to case, a class, a class and `b`,
-    // `abc`, `(?i)kb` and `(?i)bs`
+    // `a`, `(?i)@`, `(?i)b`, `(?i)k`, `(?i)S`, the Kelvin sign and the long s without regard to case, a class, a class
+    // and `b`, `abc`, `(?i)kb` and `(?i)bs`
     static ROWS: [NeedRow; 12] = [
         (&[A], Some((b"a", b"", b"")), (0, 0), (0, 0)),
         (&[AnyCase(64)], Some((b"@", b"", b"")), (0, 0), (0, 0)),

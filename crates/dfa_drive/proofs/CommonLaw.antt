@@ -7,7 +7,8 @@ use Rattle.pat_tree.specs.declared.nodes.Verb.TheVariants.{Fail}
 use Rattle.pat_tree.specs.Nested as tree
 use Rattle.pat_tree.specs.Nested.{Nested, Row, Test, Other}
 use Rattle.dfa_ends.specs.pat_check.Nodes.{nodes, nodes_in, nodes_of_test, nodes_of_other, all_nodes}
-use Rattle.dfa_ends.specs.pat_check.Support.{verb_support, test_support, node_support, or_later, support_of_all, dfa_support}
+use Rattle.dfa_ends.specs.pat_check.Support.{verb_support, test_support, node_support, or_later, support_of_all}
+use Rattle.dfa_ends.specs.pat_check.Support.{dfa_support}
 use Rattle.dfa_ends.specs.pat_check.declared.support.DfaSupport.{DfaSupport}
 use Rattle.dfa_ends.specs.pat_check.declared.support.DfaSupport.TheVariants.{Yes, Item, Cond}
 use Rattle.dfa_ends.specs.TwoMatchers.{IsCommon, AreCommon, IsCommonTest, IsCommonOther, IsCommonVerb}

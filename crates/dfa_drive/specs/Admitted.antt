@@ -1,5 +1,6 @@
 -- The ends at one place that the options admit.
-use Rattle.std.specs.Prelude.{ℕ, zero, suc, Bool, true, false, ◌&&◌, ◌||◌, not, List, [], ◌∷◌, length, ◌==◌, slice_index_or}
+use Rattle.std.specs.Prelude.{ℕ, zero, suc, Bool, true, false, ◌&&◌, ◌||◌, not, List, [], ◌∷◌, length, ◌==◌}
+use Rattle.std.specs.Prelude.{slice_index_or}
 use Rattle.match_items.specs.Scene.{Scene}
 
 -- an end at q of a match that begins at p

@@ -1,10 +1,13 @@
 -- The ordered search fits the ends.
-use Rattle.std.proofs.Common.{◌≡◌, ℕ, zero, suc, ◌⊎◌, Bool, true, false, List, [], ◌∷◌, Option, Some, None, refl, subst, inl, inr}
+use Rattle.std.proofs.Common.{◌≡◌, ℕ, zero, suc, ◌⊎◌, Bool, true, false, List, [], ◌∷◌, Option, Some, None, refl}
+use Rattle.std.proofs.Common.{subst, inl, inr}
 use Rattle.pat_tree.specs.declared.options.PartialMode.TheVariants.{Off}
 use Rattle.pat_tree.specs.declared.nodes.Verb.TheVariants.{Accept, Fail, Commit, Prune, Skip, Then, Mark}
 use Rattle.pat_tree.specs.Nested as tree
 use Rattle.pat_tree.specs.Nested.{Nested, Row, Test, Other}
-use Rattle.ordered_search.specs.Stream.{State, first_state, exhausted, by_verb, by_halt, is_partial, too_many_units, loop, abort, cut, reached, accepted, name, note, state, step, Stream, Search, ends, ◌▸◌}
+use Rattle.ordered_search.specs.Stream.{State, first_state, exhausted, by_verb, by_halt, is_partial, too_many_units}
+use Rattle.ordered_search.specs.Stream.{loop, abort, cut, reached, accepted, name, note, state, step, Stream, Search}
+use Rattle.ordered_search.specs.Stream.{ends, ◌▸◌}
 use Rattle.ordered_search.specs.Setting.{Setting, branch_lengths}
 use Rattle.ordered_search.specs.Parts.{Searches, choices, branches, in_order, tests, is_called, named, run_verb}
 use Rattle.ordered_search.specs.Run.{level, levels, levels_behind, level_test, level_other, run}
@@ -13,7 +16,9 @@ use Rattle.dfa_ends.specs.Ends.{spot, Spots, Way, TryEnds, Ends, AllEnd, AnyEnds
 use Rattle.dfa_ends.specs.TwoMatchers.{Occurs, Ordered, IsCommon, AreCommon, IsCommonTest, IsCommonOther, Agrees}
 use Rattle.dfa_ends.proofs.Fits.{Fits, Sound, Done, fits_same, fits_nothing, fits_cut, fits_note, fits_held}
 use Rattle.dfa_ends.proofs.FitItems.{FitsSearch, fit_one, fit_break, fit_anchor, fit_many}
-use Rattle.dfa_ends.proofs.FitForms.{all_none, in_order_none, all_more, choices_none, choices_last, choices_more, branches_none, branches_one, branches_two, fit_group, fit_behind, fit_look, fit_not_look, Branching, fit_asserts, fit_asserts_not, Turns, fit_repeat}
+use Rattle.dfa_ends.proofs.FitForms.{all_none, in_order_none, all_more, choices_none, choices_last, choices_more}
+use Rattle.dfa_ends.proofs.FitForms.{branches_none, branches_one, branches_two, fit_group, fit_behind, fit_look}
+use Rattle.dfa_ends.proofs.FitForms.{fit_not_look, Branching, fit_asserts, fit_asserts_not, Turns, fit_repeat}
 
 module _ (g : Setting) where
   fit_fail : (n : Option ℕ) → FitsSearch (λ x y. ⊥) (run_verb g (Fail n))

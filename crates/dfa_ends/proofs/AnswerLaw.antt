@@ -1,5 +1,6 @@
 -- The ends answered are the admitted places of the ordered search.
-use Rattle.std.proofs.Common.{◌≡◌, ℕ, zero, suc, ◌<◌, ◌≤◌, ◌⊎◌, Bool, true, false, List, [], ◌∷◌, Option, Some, None, refl, sym, ap, subst, ◌∙◌, inl, inr, arith, eqb-true, ltb-true, ltb-false}
+use Rattle.std.proofs.Common.{◌≡◌, ℕ, zero, suc, ◌<◌, ◌≤◌, ◌⊎◌, Bool, true, false, List, [], ◌∷◌, Option, Some, None}
+use Rattle.std.proofs.Common.{refl, sym, ap, subst, ◌∙◌, inl, inr, arith, eqb-true, ltb-true, ltb-false}
 use Rattle.std.specs.Prelude.{◌==◌, nat_lt, IsTrue}
 use Rattle.pat_tree.specs.declared.options.PartialMode.{PartialMode}
 use Rattle.pat_tree.specs.declared.options.PartialMode.TheVariants.{Off, Soft, Hard}
@@ -12,7 +13,8 @@ use Rattle.ordered_search.specs.PlaceAnswer.{Exhausted}
 use Rattle.ordered_search.specs.Places.{place_after, is_excluded}
 use Rattle.dfa_ends.specs.Ends.{Spot, spot, Among}
 use Rattle.dfa_ends.specs.EndList.{In, ends_list, insert, falling, end_places}
-use Rattle.dfa_ends.specs.DfaAnswer.{is_admitted, admitted, last_of, DfaAnswer, EndsFrom, NoMatch, decision, ends_from, decision_at, from_place}
+use Rattle.dfa_ends.specs.DfaAnswer.{is_admitted, admitted, last_of, DfaAnswer, EndsFrom, NoMatch, decision}
+use Rattle.dfa_ends.specs.DfaAnswer.{ends_from, decision_at, from_place}
 use Rattle.dfa_ends.specs.TwoMatchers.{Occurs, Agrees, with_frame_limit}
 use Rattle.dfa_ends.specs.Answered.{Falls, AreAnswered, IsLeastAnswered, AnswerLaw}
 use Rattle.dfa_ends.proofs.EndsLaw.{ends_law}

@@ -1,6 +1,7 @@
 -- The ends don't depend on the frame limit, so the search under any limit agrees with them.
 use mathlib.Core.Path.{fun_ext}
-use Rattle.std.proofs.Common.{◌≡◌, ◌∙◌, ℕ, zero, suc, true, false, List, [], ◌∷◌, drop, Option, Some, None, refl, sym, ap, ap₂, subst}
+use Rattle.std.proofs.Common.{◌≡◌, ◌∙◌, ℕ, zero, suc, true, false, List, [], ◌∷◌, drop, Option, Some, None, refl}
+use Rattle.std.proofs.Common.{sym, ap, ap₂, subst}
 use Rattle.pat_tree.specs.Nested as tree
 use Rattle.pat_tree.specs.Nested.{Nested, Row, Test, Other}
 use Rattle.pat_lengths.specs.Lengths.{SomeLengths}
@@ -8,7 +9,8 @@ use Rattle.match_items.specs.Items.{places_back, previous}
 use Rattle.ordered_search.specs.Stream.{Stream}
 use Rattle.ordered_search.specs.Setting.{Setting, branch_lengths}
 use Rattle.dfa_ends.specs.Ends.{Spot, spot, has_one_length, tries}
-use Rattle.dfa_ends.specs.EndList.{In, union, every, longest, if_any, begun_at, counted, repeated, item_ends, try_list, ends_list, all_list, any_list, behind_list, test_list, other_list}
+use Rattle.dfa_ends.specs.EndList.{In, union, every, longest, if_any, begun_at, counted, repeated, item_ends}
+use Rattle.dfa_ends.specs.EndList.{try_list, ends_list, all_list, any_list, behind_list, test_list, other_list}
 use Rattle.dfa_ends.specs.TwoMatchers.{EndPlace, Agrees, with_frame_limit, EndsLaw}
 use Rattle.dfa_ends.proofs.ListLaw.{list_law}
 use Rattle.dfa_ends.proofs.Agree.{agrees}

@@ -1,17 +1,24 @@
 -- Each construct fits its ends where its parts do.
-use Rattle.std.proofs.Common.{◌≡◌, ℕ, zero, suc, ◌+◌, ◌-◌, ◌<◌, ◌≤◌, ◌⊎◌, Bool, true, false, List, [], ◌∷◌, length, drop, reverse, Option, Some, None, refl, sym, subst, inl, inr, arith, eqb-true, leb-true, length-drop}
+use Rattle.std.proofs.Common.{◌≡◌, ℕ, zero, suc, ◌+◌, ◌-◌, ◌<◌, ◌≤◌, ◌⊎◌, Bool, true, false, List, [], ◌∷◌, length}
+use Rattle.std.proofs.Common.{drop, reverse, Option, Some, None, refl, sym, subst, inl, inr, arith, eqb-true}
+use Rattle.std.proofs.Common.{leb-true, length-drop}
 use Rattle.std.proofs.lemmas.List.{length-reverse}
 use Rattle.std.specs.Prelude.{nat_le, ◌==◌, ◌&&◌}
 use Rattle.pat_tree.specs.Nested.{Nested, repeat}
 use Rattle.pat_lengths.specs.Lengths.{SomeLengths}
 use Rattle.match_items.specs.Items.{one_less, places_back, previous}
-use Rattle.ordered_search.specs.Stream.{State, reached, Stream, Search, nothing, gives, ◌or_else◌, and_then, go_on, fails_alone, fails_inside, captured}
+use Rattle.ordered_search.specs.Stream.{State, reached, Stream, Search, nothing, gives, ◌or_else◌, and_then, go_on}
+use Rattle.ordered_search.specs.Stream.{fails_alone, fails_inside, captured}
 use Rattle.ordered_search.specs.Setting.{Setting, hold}
-use Rattle.ordered_search.specs.Parts.{Searches, in_order, choices, branches, run_group, begun_at, ends_at, one_try, tries, tries_within, run_behind, back_to, forget_passed, run_look, asserts, is_over, turn, run_repeat}
+use Rattle.ordered_search.specs.Parts.{Searches, in_order, choices, branches, run_group, begun_at, ends_at, one_try}
+use Rattle.ordered_search.specs.Parts.{tries, tries_within, run_behind, back_to, forget_passed, run_look, asserts}
+use Rattle.ordered_search.specs.Parts.{is_over, turn, run_repeat}
 use Rattle.dfa_ends.specs.Ends as rel
 use Rattle.dfa_ends.specs.Ends.{Spot, spot, Spots, Way, HasOne, HasNone, Among, Times, Within, begun, Counted, TryEnds}
 use Rattle.dfa_ends.specs.TwoMatchers.{Occurs, Ordered}
-use Rattle.dfa_ends.proofs.Fits.{Fits, Chain, Either, sound_like, if_false, fits_same, fits_nothing, fits_gives, fits_step, fits_or_else, fits_each, fits_decide, fits_catch, fits_held, fits_hold, alone_tests, inside_tests}
+use Rattle.dfa_ends.proofs.Fits.{Fits, Chain, Either, sound_like, if_false, fits_same, fits_nothing, fits_gives}
+use Rattle.dfa_ends.proofs.Fits.{fits_step, fits_or_else, fits_each, fits_decide, fits_catch, fits_held, fits_hold}
+use Rattle.dfa_ends.proofs.Fits.{alone_tests, inside_tests}
 use Rattle.dfa_ends.proofs.FitItems.{FitsSearch, place_of, from_reverse, to_reverse}
 
 -- Sequences and branches.

@@ -1,16 +1,21 @@
 -- Items, `\R`, anchors and one-item repeats fit their ends.
-use Rattle.std.proofs.Common.{◌≡◌, ℕ, zero, suc, ◌+◌, ◌-◌, ◌≤◌, ◌⊎◌, Bool, true, false, List, [], ◌∷◌, length, drop, reverse, Option, Some, None, refl, ap, subst, inl, inr, arith, eqb-true, length-drop, option_map}
+use Rattle.std.proofs.Common.{◌≡◌, ℕ, zero, suc, ◌+◌, ◌-◌, ◌≤◌, ◌⊎◌, Bool, true, false, List, [], ◌∷◌, length, drop}
+use Rattle.std.proofs.Common.{reverse, Option, Some, None, refl, ap, subst, inl, inr, arith, eqb-true, length-drop}
+use Rattle.std.proofs.Common.{option_map}
 use mathlib.Core.List.{reverse_aux}
 use Rattle.std.specs.Prelude.{◌==◌, IsTrue}
 use Rattle.pat_tree.specs.declared.options.PartialMode.TheVariants.{Off}
 use Rattle.pat_tree.specs.declared.nodes.Item.{Item}
 use Rattle.pat_tree.specs.declared.nodes.AnchorKind.{AnchorKind}
-use Rattle.match_items.specs.Items.{one_less, is_none_left, after_item, item_reaches, run_places, longest_run, after_break, holds, anchor_reaches, earliest}
+use Rattle.match_items.specs.Items.{one_less, is_none_left, after_item, item_reaches, run_places, longest_run}
+use Rattle.match_items.specs.Items.{after_break, holds, anchor_reaches, earliest}
 use Rattle.ordered_search.specs.Stream.{State, reached, Stream, Search, nothing, gives}
 use Rattle.ordered_search.specs.Setting.{Setting}
-use Rattle.ordered_search.specs.Tests.{move_to, goes_to, run_one, run_break, run_anchor, offers, offer_and, greedy, reluctant, lazy_run, run_many}
+use Rattle.ordered_search.specs.Tests.{move_to, goes_to, run_one, run_break, run_anchor, offers, offer_and, greedy}
+use Rattle.ordered_search.specs.Tests.{reluctant, lazy_run, run_many}
 use Rattle.dfa_ends.specs.Ends.{Spot, spot, Way, Among, GoesTo, Times, Within, seen, ItemEnds, BreakEnds, AnchorEnds}
-use Rattle.dfa_ends.proofs.Fits.{Fits, fits_like, fits_same, fits_nothing, fits_gives, fits_step, fits_or_else, fits_hold, fits_reach_if}
+use Rattle.dfa_ends.proofs.Fits.{Fits, fits_like, fits_same, fits_nothing, fits_gives, fits_step, fits_or_else}
+use Rattle.dfa_ends.proofs.Fits.{fits_hold, fits_reach_if}
 use Rattle.dfa_ends.proofs.Steps.{item_steps}
 
 -- Every stream of the search fits what the way gives, whatever the earliest place.

@@ -3,7 +3,10 @@
 use Rattle.std.proofs.Common.{◌≡◌, ℕ, ◌+◌, ◌⊎◌, Bool, true, false, [], refl, sym, subst, inl, inr}
 use Rattle.std.specs.Prelude.{nat_le}
 use Rattle.pat_tree.specs.declared.options.PartialMode.TheVariants.{Off}
-use Rattle.ordered_search.specs.Stream.{State, Ending, exhausted, by_verb, by_halt, is_partial, too_many_units, loop, abort, cut, Note, How, reached, accepted, note, state, step, Stream, Search, ends, ◌▸◌, nothing, gives, ◌or_else◌, each, decide, catch, is_next_branch, fails_alone, fails_inside}
+use Rattle.ordered_search.specs.Stream.{State, Ending, exhausted, by_verb, by_halt, is_partial, too_many_units, loop}
+use Rattle.ordered_search.specs.Stream.{abort, cut, Note, How, reached, accepted, note, state, step, Stream, Search}
+use Rattle.ordered_search.specs.Stream.{ends, ◌▸◌, nothing, gives, ◌or_else◌, each, decide, catch, is_next_branch}
+use Rattle.ordered_search.specs.Stream.{fails_alone, fails_inside}
 use Rattle.ordered_search.specs.Setting.{Setting, held, hold, reach, reach_if}
 use Rattle.dfa_ends.specs.Ends.{Spot, spot, Spots, Way, HasOne, HasNone}
 use Rattle.dfa_ends.specs.TwoMatchers.{Occurs}

@@ -1,18 +1,27 @@
 -- The list of the ends is the relation.
-use Rattle.std.proofs.Common.{◌≡◌, ℕ, zero, suc, ◌+◌, ◌-◌, ◌<◌, ◌≤◌, ◌⊎◌, Bool, true, false, List, [], ◌∷◌, length, Option, Some, None, refl, sym, ap, ap₂, subst, inl, inr, arith, leb-true, leb-false, eqb-true, eq-eqb}
+use Rattle.std.proofs.Common.{◌≡◌, ℕ, zero, suc, ◌+◌, ◌-◌, ◌<◌, ◌≤◌, ◌⊎◌, Bool, true, false, List, [], ◌∷◌, length}
+use Rattle.std.proofs.Common.{Option, Some, None, refl, sym, ap, ap₂, subst, inl, inr, arith, leb-true, leb-false}
+use Rattle.std.proofs.Common.{eqb-true, eq-eqb}
 use Rattle.std.specs.Prelude.{◌==◌, IsTrue, min}
 use Rattle.pat_tree.specs.declared.nodes.Item.{Item}
 use Rattle.pat_tree.specs.declared.nodes.Item.TheVariants.{AnyAll}
 use Rattle.pat_tree.specs.declared.nodes.AnchorKind.{AnchorKind}
-use Rattle.pat_tree.specs.declared.nodes.AnchorKind.TheVariants.{Caret, Dollar, SubjectStart, SubjectEnd, EndOrNewline, StartGiven, Word, NotWord}
+use Rattle.pat_tree.specs.declared.nodes.AnchorKind.TheVariants.{Caret, Dollar, SubjectStart, SubjectEnd}
+use Rattle.pat_tree.specs.declared.nodes.AnchorKind.TheVariants.{EndOrNewline, StartGiven, Word, NotWord}
 use Rattle.pat_tree.specs.Nested as tree
 use Rattle.pat_tree.specs.Nested.{Nested, Row, Test, Other}
 use Rattle.pat_lengths.specs.Lengths.{SomeLengths}
 use Rattle.match_items.specs.Items.{after_item, after_break, holds, place_before}
 use Rattle.ordered_search.specs.Setting.{Setting, branch_lengths}
-use Rattle.dfa_ends.specs.Ends.{Spot, spot, Spots, Way, HasOne, HasNone, Among, GoesTo, Times, Within, begun, has_one_length, Counted, seen, tries, TryEnds, ItemEnds, Ends, AllEnd, AnyEnds, AnyEndsBehind, IsSo, IsNot, OtherEnds}
-use Rattle.dfa_ends.specs.EndList.{In, after_turns, further, if_any, most_turns, bounds_meet, going_to, begun_at, counted, repeated, item_ends, try_list, ends_list, all_list, any_list, behind_list, test_list, other_list, ListLaw}
-use Rattle.dfa_ends.proofs.ListLemmas.{Lists, lists_same, lists_one, lists_none, lists_union, lists_every, lists_if_any, lists_longest, in_keep, keep_in, after_sound, after_full, further_sound, further_full}
+use Rattle.dfa_ends.specs.Ends.{Spot, spot, Spots, Way, HasOne, HasNone, Among, GoesTo, Times, Within, begun}
+use Rattle.dfa_ends.specs.Ends.{has_one_length, Counted, seen, tries, TryEnds, ItemEnds, Ends, AllEnd, AnyEnds}
+use Rattle.dfa_ends.specs.Ends.{AnyEndsBehind, IsSo, IsNot, OtherEnds}
+use Rattle.dfa_ends.specs.EndList.{In, after_turns, further, if_any, most_turns, bounds_meet, going_to, begun_at}
+use Rattle.dfa_ends.specs.EndList.{counted, repeated, item_ends, try_list, ends_list, all_list, any_list}
+use Rattle.dfa_ends.specs.EndList.{behind_list, test_list, other_list, ListLaw}
+use Rattle.dfa_ends.proofs.ListLemmas.{Lists, lists_same, lists_one, lists_none, lists_union, lists_every}
+use Rattle.dfa_ends.proofs.ListLemmas.{lists_if_any, lists_longest, in_keep, keep_in, after_sound, after_full}
+use Rattle.dfa_ends.proofs.ListLemmas.{further_sound, further_full}
 use Rattle.dfa_ends.proofs.Steps.{item_steps, break_steps}
 
 -- The places of a way rise, from before the n-th place alone, and the earliest places fall.

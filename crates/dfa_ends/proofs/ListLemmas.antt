@@ -1,8 +1,10 @@
 -- Lists of spots as sets.
-use Rattle.std.proofs.Common.{◌≡◌, ℕ, zero, suc, ◌<◌, ◌≤◌, ◌⊎◌, Bool, true, false, List, [], ◌∷◌, refl, sym, ap₂, subst, inl, inr, arith, eqb-true, eq-eqb, le-leb, leb-true}
+use Rattle.std.proofs.Common.{◌≡◌, ℕ, zero, suc, ◌<◌, ◌≤◌, ◌⊎◌, Bool, true, false, List, [], ◌∷◌, refl, sym, ap₂}
+use Rattle.std.proofs.Common.{subst, inl, inr, arith, eqb-true, eq-eqb, le-leb, leb-true}
 use Rattle.std.specs.Prelude.{nat_le, ◌==◌, ◌&&◌, not}
 use Rattle.dfa_ends.specs.Ends.{Spot, spot, Spots, Way, HasOne, HasNone, Times}
-use Rattle.dfa_ends.specs.EndList.{In, same_spot, has_spot, union, every, keep_if, after_turns, changed, further, all_within, longest, if_any}
+use Rattle.dfa_ends.specs.EndList.{In, same_spot, has_spot, union, every, keep_if, after_turns, changed, further}
+use Rattle.dfa_ends.specs.EndList.{all_within, longest, if_any}
 
 pub both_true : (a b : Bool) → (a && b) ≡ true → (a ≡ true) × (b ≡ true)
 both_true true b e = (refl, e)

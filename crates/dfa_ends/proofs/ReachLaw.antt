@@ -1,15 +1,20 @@
 -- The test of reaching the end computes the relation.
-use Rattle.std.proofs.Common.{◌≡◌, ℕ, zero, suc, ◌≤◌, ◌⊎◌, Bool, true, false, List, [], ◌∷◌, length, Option, Some, None, refl, sym, subst, ◌∙◌, inl, inr, arith}
+use Rattle.std.proofs.Common.{◌≡◌, ℕ, zero, suc, ◌≤◌, ◌⊎◌, Bool, true, false, List, [], ◌∷◌, length, Option, Some}
+use Rattle.std.proofs.Common.{None, refl, sym, subst, ◌∙◌, inl, inr, arith}
 use Rattle.std.specs.Prelude.{◌&&◌, ◌||◌, cond, IsTrue}
 use Rattle.pat_tree.specs.declared.nodes.Item.{Item}
 use Rattle.pat_tree.specs.Nested as tree
 use Rattle.pat_tree.specs.Nested.{Nested, Row, Test, Other}
 use Rattle.ordered_search.specs.Setting.{Setting, branch_lengths}
-use Rattle.dfa_ends.specs.Ends.{Spot, Spots, Way, HasOne, HasNone, Among, Times, Below, begun, tries, ItemEnds, Ends, IsSo, IsNot, ItemReaches, Reaches, AllReach, AnyReaches, AnyReachesBehind, TestReaches, OtherReaches}
+use Rattle.dfa_ends.specs.Ends.{Spot, Spots, Way, HasOne, HasNone, Among, Times, Below, begun, tries, ItemEnds, Ends}
+use Rattle.dfa_ends.specs.Ends.{IsSo, IsNot, ItemReaches, Reaches, AllReach, AnyReaches, AnyReachesBehind}
+use Rattle.dfa_ends.specs.Ends.{TestReaches, OtherReaches}
 use Rattle.dfa_ends.specs.EndList.{In, further, most_turns, begun_at, ends_list, item_ends}
-use Rattle.dfa_ends.specs.DfaAnswer.{some_spot, some_is, item_reaches_at, some_turn, reach_test, all_reach, any_reaches, behind_reaches, test_reaches, other_reaches, ReachLaw}
+use Rattle.dfa_ends.specs.DfaAnswer.{some_spot, some_is, item_reaches_at, some_turn, reach_test, all_reach}
+use Rattle.dfa_ends.specs.DfaAnswer.{any_reaches, behind_reaches, test_reaches, other_reaches, ReachLaw}
 use Rattle.dfa_ends.proofs.ListLemmas.{Lists, further_sound, further_full, both_true, and_true}
-use Rattle.dfa_ends.proofs.ListLaw.{Onward, onward, onward_item, left, fewer, single, lists, lists_any, lists_behind, lists_item, begun_sound, begun_full}
+use Rattle.dfa_ends.proofs.ListLaw.{Onward, onward, onward_item, left, fewer, single, lists, lists_any, lists_behind}
+use Rattle.dfa_ends.proofs.ListLaw.{lists_item, begun_sound, begun_full}
 
 never : false ≡ true → ⊥
 never e = cc

@@ -8,8 +8,10 @@ use Rattle.pat_lengths.specs.Nodes.{nodes}
 use Rattle.pat_lengths.specs.Lengths.{lengths, by_calls, lead_to, behind}
 use Rattle.ordered_search.specs.pat_check.Lead.{lead}
 use Rattle.match_items.specs.Items.{places_back, run_places, run_reaches}
-use Rattle.dfa_ends.specs.EndList.{has_spot, union, every, keep_if, after_turns, further, all_within, repeated, item_ends, try_list, ends_list, insert, falling}
-use Rattle.dfa_ends.specs.DfaAnswer.{some_spot, some_turn, reach_test, admitted, last_of, EndsFrom, from_place, dfa_answer}
+use Rattle.dfa_ends.specs.EndList.{has_spot, union, every, keep_if, after_turns, further, all_within, repeated}
+use Rattle.dfa_ends.specs.EndList.{item_ends, try_list, ends_list, insert, falling}
+use Rattle.dfa_ends.specs.DfaAnswer.{some_spot, some_turn, reach_test, admitted, last_of, EndsFrom, from_place}
+use Rattle.dfa_ends.specs.DfaAnswer.{dfa_answer}
 use Rattle.dfa_ends.specs.Rows.{Answered, ends, three, inside, refusing, partials, WorkedRows}
 
 computing : Unit {0}

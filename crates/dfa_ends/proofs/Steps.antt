@@ -1,5 +1,6 @@
 -- How far one item, `\R` and anchors go: forward, and only before the subject's end.
-use Rattle.std.proofs.Common.{◌≡◌, ℕ, ◌+◌, ◌<◌, ◌≤◌, Bool, true, false, List, length, drop, Option, Some, None, nat_le, nat_lt, refl, arith, leb-false, ltb-true, inl, inr}
+use Rattle.std.proofs.Common.{◌≡◌, ℕ, ◌+◌, ◌<◌, ◌≤◌, Bool, true, false, List, length, drop, Option, Some, None}
+use Rattle.std.proofs.Common.{nat_le, nat_lt, refl, arith, leb-false, ltb-true, inl, inr}
 use Rattle.std.proofs.lemmas.Str.{len_utf8_bounds}
 use Rattle.std.specs.Char.{len_utf8}
 use Rattle.std.proofs.lemmas.Bool.{cases_lt}

@@ -1,17 +1,20 @@
 -- What a DFA match answers: all ends at the first place that decides (pcre2matching, "The
 -- alternative matching algorithm"; pcre2partial).
-use Rattle.std.specs.Prelude.{◌≡◌, ℕ, zero, suc, ◌+◌, ◌-◌, Bool, true, false, ◌&&◌, ◌||◌, not, cond, List, [], ◌∷◌, length, Option, Some, None, ◌==◌, nat_lt}
+use Rattle.std.specs.Prelude.{◌≡◌, ℕ, zero, suc, ◌+◌, ◌-◌, Bool, true, false, ◌&&◌, ◌||◌, not, cond, List, [], ◌∷◌}
+use Rattle.std.specs.Prelude.{length, Option, Some, None, ◌==◌, nat_lt}
 use Rattle.pat_tree.specs.declared.nodes.Item.{Item}
 use Rattle.pat_tree.specs.declared.options.PartialMode.{PartialMode}
 use Rattle.pat_tree.specs.declared.options.PartialMode.TheVariants.{Soft, Hard}
 use Rattle.pat_tree.specs.Nested as tree
 use Rattle.pat_tree.specs.Nested.{Nested, Row, Test, Other}
 use Rattle.match_items.specs.Items.{item_reaches, break_reaches, anchor_reaches}
-use Rattle.ordered_search.specs.Setting.{Setting, has_lookbehind, can_be_empty, branch_lengths, endanchored, notempty, notempty_atstart}
+use Rattle.ordered_search.specs.Setting.{Setting, has_lookbehind, can_be_empty, branch_lengths, endanchored}
+use Rattle.ordered_search.specs.Setting.{notempty, notempty_atstart}
 use Rattle.ordered_search.specs.PlaceAnswer.{Exhausted}
 use Rattle.ordered_search.specs.Places.{within, place_after, is_excluded}
 use Rattle.dfa_ends.specs.Ends.{Spot, spot, seen, tries, Reaches}
-use Rattle.dfa_ends.specs.EndList.{further, most_turns, item_ends, begun_at, ends_list, any_list, behind_list, end_places}
+use Rattle.dfa_ends.specs.EndList.{further, most_turns, item_ends, begun_at, ends_list, any_list, behind_list}
+use Rattle.dfa_ends.specs.EndList.{end_places}
 
 unfoldable pub some_spot : (Spot → Bool) → List Spot → Bool
 some_spot p [] = false

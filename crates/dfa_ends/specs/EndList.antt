@@ -1,5 +1,6 @@
 -- The ends as a list that can be computed.
-use Rattle.std.specs.Prelude.{◌≡◌, ℕ, zero, suc, ◌+◌, ◌-◌, Bool, true, false, ◌&&◌, ◌⊎◌, not, List, [], ◌∷◌, map, length, Option, Some, None, ◌==◌, nat_le, nat_lt}
+use Rattle.std.specs.Prelude.{◌≡◌, ℕ, zero, suc, ◌+◌, ◌-◌, Bool, true, false, ◌&&◌, ◌⊎◌, not, List, [], ◌∷◌, map}
+use Rattle.std.specs.Prelude.{length, Option, Some, None, ◌==◌, nat_le, nat_lt}
 use Rattle.pat_tree.specs.declared.nodes.Item.{Item}
 use Rattle.pat_tree.specs.Nested as tree
 use Rattle.pat_tree.specs.Nested.{Nested, Row, Test, Other}

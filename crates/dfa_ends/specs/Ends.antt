@@ -1,12 +1,14 @@
 -- Where a tree can end: the set of its ends, as a relation (pcre2matching, "The alternative
 -- matching algorithm"). No order is in it, and no list of states.
-use Rattle.std.specs.Prelude.{◌≡◌, ℕ, zero, suc, ◌<◌, ◌≤◌, Bool, true, false, ◌||◌, ◌⊎◌, IsTrue, List, [], ◌∷◌, length, drop, Option, Some, None, ◌==◌, nat_lt, min}
+use Rattle.std.specs.Prelude.{◌≡◌, ℕ, zero, suc, ◌<◌, ◌≤◌, Bool, true, false, ◌||◌, ◌⊎◌, IsTrue, List, [], ◌∷◌}
+use Rattle.std.specs.Prelude.{length, drop, Option, Some, None, ◌==◌, nat_lt, min}
 use Rattle.pat_tree.specs.declared.nodes.Item.{Item}
 use Rattle.pat_tree.specs.declared.nodes.AnchorKind.{AnchorKind}
 use Rattle.pat_tree.specs.Nested as tree
 use Rattle.pat_tree.specs.Nested.{Nested, Row, Test, Other}
 use Rattle.pat_lengths.specs.Lengths.{SomeLengths}
-use Rattle.match_items.specs.Items.{places_back, after_item, item_reaches, after_break, break_reaches, holds, anchor_reaches, earliest}
+use Rattle.match_items.specs.Items.{places_back, after_item, item_reaches, after_break, break_reaches, holds}
+use Rattle.match_items.specs.Items.{anchor_reaches, earliest}
 use Rattle.ordered_search.specs.Setting.{Setting, has_lookbehind, can_be_empty, branch_lengths}
 
 -- a place, and the earliest place inspected on the way to it

@@ -3,9 +3,11 @@ use Rattle.std.specs.Prelude.{◌≡◌, ℕ, true, false, List, [], ◌∷◌, 
 use Rattle.pat_tree.specs.declared.nodes.Item.TheVariants.{Char, NotNewline, Class}
 use Rattle.pat_tree.specs.declared.nodes.AnchorKind.TheVariants.{Caret, Word}
 use Rattle.pat_tree.specs.declared.nodes.Verb.TheVariants.{Fail}
-use Rattle.pat_tree.specs.Nested.{empty, one, line_break, seq, group, repeat, one_repeat, atomic, look, condition, anchor, verb, none, never, assert, no_other, other}
+use Rattle.pat_tree.specs.Nested.{empty, one, line_break, seq, group, repeat, one_repeat, atomic, look, condition}
+use Rattle.pat_tree.specs.Nested.{anchor, verb, none, never, assert, no_other, other}
 use Rattle.ordered_search.specs.Setting.{Setting}
-use Rattle.ordered_search.specs.Written.{◌&◌, ◌⨾◌, text, words, search, with_options, with_matching, with_classes, from, soft, hard, utf}
+use Rattle.ordered_search.specs.Written.{◌&◌, ◌⨾◌, text, words, search, with_options, with_matching, with_classes}
+use Rattle.ordered_search.specs.Written.{from, soft, hard, utf}
 use Rattle.dfa_ends.specs.DfaAnswer.{DfaAnswer, EndsFrom, NoMatch, PartialFrom, dfa_answer}
 
 -- each of these searches gives its answer

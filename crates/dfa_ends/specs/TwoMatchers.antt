@@ -5,7 +5,8 @@ use Rattle.pat_tree.specs.declared.nodes.Verb.TheVariants.{Fail}
 use Rattle.pat_tree.specs.declared.options.PartialMode.TheVariants.{Off}
 use Rattle.pat_tree.specs.Nested as tree
 use Rattle.pat_tree.specs.Nested.{Nested, Row, Test, Other}
-use Rattle.ordered_search.specs.Stream.{first_state, exhausted, by_halt, cut, too_many_units, note, state, step, Stream, ends, ◌▸◌}
+use Rattle.ordered_search.specs.Stream.{first_state, exhausted, by_halt, cut, too_many_units, note, state, step}
+use Rattle.ordered_search.specs.Stream.{Stream, ends, ◌▸◌}
 use Rattle.ordered_search.specs.Setting.{Setting}
 use Rattle.ordered_search.specs.Run.{run}
 use Rattle.ordered_search.specs.Laws.{ending}

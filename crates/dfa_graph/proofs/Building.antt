@@ -1,5 +1,6 @@
 -- The tasks that are left: whoever does them has placed the whole.
-use Rattle.std.proofs.Common.{◌≡◌, ◌∙◌, ℕ, zero, suc, ◌+◌, ◌<◌, ◌≤◌, ◌⊎◌, true, List, [], ◌∷◌, ◌++◌, length, Some, None, refl, sym, subst, inl, inr, arith, length-append, length-set}
+use Rattle.std.proofs.Common.{◌≡◌, ◌∙◌, ℕ, zero, suc, ◌+◌, ◌<◌, ◌≤◌, ◌⊎◌, true, List, [], ◌∷◌, ◌++◌, length, Some}
+use Rattle.std.proofs.Common.{None, refl, sym, subst, inl, inr, arith, length-append, length-set}
 use Rattle.std.specs.Prelude.{slice_get, slice_set}
 use Rattle.pat_tree.specs.declared.nodes.Placed as placed
 use Rattle.dfa_paths.specs.declared.graph.Node.{Node}
@@ -16,7 +17,8 @@ use Rattle.dfa_graph.specs.Building.{states_after, so_at, else_at, task_in, tree
 use Rattle.dfa_paths.proofs.Behind.{IsReady}
 use Rattle.dfa_paths.proofs.Coming.{node_same}
 use Rattle.dfa_graph.proofs.Steps.{IsWork}
-use Rattle.dfa_graph.proofs.Tasks.{AllTasks, Fills, Apart, all_append, all_front, all_back, all_wider, fills_append, fills_front, fills_back, apart_append, apart_front, apart_last}
+use Rattle.dfa_graph.proofs.Tasks.{AllTasks, Fills, Apart, all_append, all_front, all_back, all_wider, fills_append}
+use Rattle.dfa_graph.proofs.Tasks.{fills_front, fills_back, apart_append, apart_front, apart_last}
 
 -- The invariant.
 

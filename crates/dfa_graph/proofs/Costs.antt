@@ -1,6 +1,7 @@
 -- How many steps the building of a graph takes, and that none of them is refused for a tree that
 -- has a graph.
-use Rattle.std.proofs.Common.{◌≡◌, ◌∙◌, ℕ, zero, suc, ◌+◌, ◌-◌, ◌*◌, ◌≤◌, Bool, true, false, List, [], ◌∷◌, ◌++◌, map, drop, length, Option, Some, None, refl, sym, ap, subst, arith}
+use Rattle.std.proofs.Common.{◌≡◌, ◌∙◌, ℕ, zero, suc, ◌+◌, ◌-◌, ◌*◌, ◌≤◌, Bool, true, false, List, [], ◌∷◌, ◌++◌}
+use Rattle.std.proofs.Common.{map, drop, length, Option, Some, None, refl, sym, ap, subst, arith}
 use Rattle.std.proofs.Math.Nat.{suc-mul}
 use Rattle.std.proofs.lemmas.Bool.{and_parts, false≢true, or_right}
 use Rattle.std.specs.Prelude.{◌==◌, ◌&&◌, ◌||◌, slice_get, option_map}
@@ -21,13 +22,17 @@ use Rattle.dfa_graph.specs.declared.build.Work.TheVariants.{All, Any, Turn, Ask,
 use Rattle.dfa_graph.specs.declared.build.Task.{Task}
 use Rattle.dfa_graph.specs.declared.build.Step.{Step}
 use Rattle.dfa_graph.specs.declared.build.Step.TheVariants as step
-use Rattle.dfa_graph.specs.Building.{part_of, IsRange, ids_of, one_less, part_step, second_step, cond_step, ask_step, ask_second, verb_step, all_step, any_step, turn_step, turns_step, behind_step, so_at, else_at, node_of, step_of, task_in, tasks_after, is_refused, tree_of, row_from, IsPart}
+use Rattle.dfa_graph.specs.Building.{part_of, IsRange, ids_of, one_less, part_step, second_step, cond_step, ask_step}
+use Rattle.dfa_graph.specs.Building.{ask_second, verb_step, all_step, any_step, turn_step, turns_step, behind_step}
+use Rattle.dfa_graph.specs.Building.{so_at, else_at, node_of, step_of, task_in, tasks_after, is_refused, tree_of}
+use Rattle.dfa_graph.specs.Building.{row_from, IsPart}
 use Rattle.dfa_paths.specs.Fragment.{most_nested}
 use Rattle.dfa_paths.specs.Plain.{is_never}
 use Rattle.dfa_graph.specs.Served.{is_fail, has_fragment, has_graph, all_have, test_has, other_has}
 use Rattle.dfa_graph.proofs.Tasks.{AllTasks, all_append, all_front, all_back, sum_of, sum_append}
 use Rattle.dfa_graph.proofs.Steps.{drop_some, drop_none, less_depth, one_part, no_part, IsWork}
-use Rattle.dfa_graph.proofs.TreeCosts.{turns_cost, cost, row_cost, test_cost, other_cost, turn_cost, small, cost_of_small}
+use Rattle.dfa_graph.proofs.TreeCosts.{turns_cost, cost, row_cost, test_cost, other_cost, turn_cost, small}
+use Rattle.dfa_graph.proofs.TreeCosts.{cost_of_small}
 
 abbrev turn_has : Nested → ℕ → Bool
 turn_has (tree.repeat body low high lazily) d = has_fragment body d

@@ -1,5 +1,6 @@
 -- A task is done as its step says: the tasks that are left then place the whole as well.
-use Rattle.std.proofs.Common.{◌≡◌, ◌∙◌, ℕ, ◌+◌, ◌<◌, ◌≤◌, Bool, false, List, [], ◌∷◌, ◌++◌, ◌-◌, length, Some, None, refl, sym, ap, subst, inl, inr, arith, length-append, length-set}
+use Rattle.std.proofs.Common.{◌≡◌, ◌∙◌, ℕ, ◌+◌, ◌<◌, ◌≤◌, Bool, false, List, [], ◌∷◌, ◌++◌, ◌-◌, length, Some, None}
+use Rattle.std.proofs.Common.{refl, sym, ap, subst, inl, inr, arith, length-append, length-set}
 use Rattle.std.specs.Prelude.{slice_get, slice_set}
 use Rattle.pat_tree.specs.declared.nodes.Placed as placed
 use Rattle.dfa_paths.specs.declared.graph.Node.{Node}
@@ -10,11 +11,14 @@ use Rattle.dfa_graph.specs.declared.build.Step.{Step}
 use Rattle.dfa_graph.specs.declared.build.Step.TheVariants as step
 use Rattle.dfa_paths.specs.Graph.{IsNodeIn, IsGraph}
 use Rattle.dfa_paths.specs.Fragment.{IsNode}
-use Rattle.dfa_graph.specs.Building.{part_of, step_of, states_after, so_at, else_at, look_node, task_in, tasks_after, is_refused, WorkPlaced, IsPart}
+use Rattle.dfa_graph.specs.Building.{part_of, step_of, states_after, so_at, else_at, look_node, task_in, tasks_after}
+use Rattle.dfa_graph.specs.Building.{is_refused, WorkPlaced, IsPart}
 use Rattle.dfa_paths.proofs.Behind.{AreTold}
 use Rattle.dfa_graph.proofs.Steps.{IsWork, IsStep, StepPlaced, step_means}
 use Rattle.dfa_graph.proofs.Works.{step_ok}
-use Rattle.dfa_graph.proofs.Tasks.{AllTasks, Fills, Apart, all_front, fills_append, get_set, get_other, get_front, AreDead, one_dead, two_dead, three_dead, second_new, either_new, so_in, else_in, ways_apart, look_in, graph_longer, graph_set}
+use Rattle.dfa_graph.proofs.Tasks.{AllTasks, Fills, Apart, all_front, fills_append, get_set, get_other, get_front}
+use Rattle.dfa_graph.proofs.Tasks.{AreDead, one_dead, two_dead, three_dead, second_new, either_new, so_in, else_in}
+use Rattle.dfa_graph.proofs.Tasks.{ways_apart, look_in, graph_longer, graph_set}
 use Rattle.dfa_graph.proofs.Building.{IsInside, Keeps, Building, fills_inside, top_inside, top_work, replaced, written}
 
 module _ (ps : List placed.Placed) (root classes : ℕ) where

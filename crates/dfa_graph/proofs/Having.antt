@@ -1,5 +1,6 @@
 -- What is placed is of the forms of which a graph is made.
-use Rattle.std.proofs.Common.{◌≡◌, ◌∙◌, ℕ, zero, suc, ◌-◌, ◌<◌, ◌≤◌, Bool, true, false, List, Option, Some, None, refl, sym, ap, subst, arith, ltb-true, ltb-false, inl, inr}
+use Rattle.std.proofs.Common.{◌≡◌, ◌∙◌, ℕ, zero, suc, ◌-◌, ◌<◌, ◌≤◌, Bool, true, false, List, Option, Some, None}
+use Rattle.std.proofs.Common.{refl, sym, ap, subst, arith, ltb-true, ltb-false, inl, inr}
 use Rattle.std.proofs.lemmas.Bool.{false≢true}
 use Rattle.std.specs.Prelude.{◌&&◌, ◌||◌, nat_lt}
 use Rattle.pat_tree.specs.declared.nodes.Verb.{Verb}
@@ -14,9 +15,11 @@ use Rattle.pat_check.specs.declared.support.DfaSupport.TheVariants as support
 use Rattle.dfa_paths.specs.declared.graph.Node.{Node}
 use Rattle.dfa_graph.specs.declared.making.GraphError.{GraphError}
 use Rattle.dfa_graph.specs.declared.making.GraphError.TheVariants.{Item, Cond, TooLarge}
-use Rattle.dfa_paths.specs.Fragment.{Part, Copies, Options, Turns, IsLast, VerbPlaced, Placed, AllPlaced, AnyPlaced, BehindPlaced, TestPlaced, OtherPlaced, Branches, AreStatesOf, most_nested}
+use Rattle.dfa_paths.specs.Fragment.{Part, Copies, Options, Turns, IsLast, VerbPlaced, Placed, AllPlaced, AnyPlaced}
+use Rattle.dfa_paths.specs.Fragment.{BehindPlaced, TestPlaced, OtherPlaced, Branches, AreStatesOf, most_nested}
 use Rattle.dfa_paths.specs.Plain.{is_never}
-use Rattle.dfa_graph.specs.Served.{is_fail, has_fragment, has_graph, all_have, test_has, other_has, unless_small, unless_supported, refusal}
+use Rattle.dfa_graph.specs.Served.{is_fail, has_fragment, has_graph, all_have, test_has, other_has, unless_small}
+use Rattle.dfa_graph.specs.Served.{unless_supported, refusal}
 
 both : (a b : Bool) → a ≡ true → b ≡ true → (a && b) ≡ true
 both true b e k = k

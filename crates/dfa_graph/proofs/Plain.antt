@@ -1,5 +1,6 @@
 -- The graph of a tree without atomic groups and lookarounds nests nothing.
-use Rattle.std.proofs.Common.{◌≡◌, ◌∙◌, ℕ, zero, suc, ◌+◌, Bool, true, false, List, [], ◌∷◌, ◌++◌, map, length, Option, Some, None, refl, sym, ap, subst, arith}
+use Rattle.std.proofs.Common.{◌≡◌, ◌∙◌, ℕ, zero, suc, ◌+◌, Bool, true, false, List, [], ◌∷◌, ◌++◌, map, length}
+use Rattle.std.proofs.Common.{Option, Some, None, refl, sym, ap, subst, arith}
 use Rattle.std.proofs.lemmas.Bool.{and_parts, false≢true, or_right}
 use Rattle.std.specs.Prelude as list
 use Rattle.std.specs.Prelude.{◌==◌, ◌||◌, slice_get, slice_set}
@@ -24,7 +25,9 @@ use Rattle.dfa_graph.specs.declared.build.Step.TheVariants as step
 use Rattle.dfa_paths.specs.Graph.{nests, IsFlat}
 use Rattle.dfa_paths.specs.Plain.{is_never, is_plain, all_plain, test_plain, other_plain}
 use Rattle.dfa_paths.specs.Fragment.{most_nested}
-use Rattle.dfa_graph.specs.Building.{part_of, IsRange, IsTurnRange, ids_of, part_step, second_step, cond_step, verb_step, all_step, any_step, turn_step, turns_step, node_of, step_of, task_in, states_after, tasks_after, tree_of, row_from, IsPart}
+use Rattle.dfa_graph.specs.Building.{part_of, IsRange, IsTurnRange, ids_of, part_step, second_step, cond_step}
+use Rattle.dfa_graph.specs.Building.{verb_step, all_step, any_step, turn_step, turns_step, node_of, step_of, task_in}
+use Rattle.dfa_graph.specs.Building.{states_after, tasks_after, tree_of, row_from, IsPart}
 use Rattle.dfa_paths.proofs.Coming.{node_same}
 use Rattle.dfa_graph.proofs.Tasks.{AllTasks, all_append, all_front, all_back}
 use Rattle.dfa_graph.proofs.Costs.{rest_of, first_of}

@@ -1,5 +1,6 @@
 -- What the steps of a building mean.
-use Rattle.std.proofs.Common.{◌≡◌, ◌∙◌, ℕ, zero, suc, ◌+◌, ◌-◌, ◌<◌, ◌≤◌, Bool, true, false, List, [], ◌∷◌, map, drop, length, Option, Some, None, refl, sym, ap, subst, inl, inr, arith, eqb-true}
+use Rattle.std.proofs.Common.{◌≡◌, ◌∙◌, ℕ, zero, suc, ◌+◌, ◌-◌, ◌<◌, ◌≤◌, Bool, true, false, List, [], ◌∷◌, map}
+use Rattle.std.proofs.Common.{drop, length, Option, Some, None, refl, sym, ap, subst, inl, inr, arith, eqb-true}
 use Rattle.std.specs.Prelude as list
 use Rattle.std.specs.Prelude.{◌==◌, slice_get, slice_index_or, option_map}
 use Rattle.std.proofs.lemmas.Bool.{false≢true}
@@ -23,8 +24,12 @@ use Rattle.dfa_graph.specs.declared.build.Step.TheVariants as step
 use Rattle.pat_lengths.specs.Backs.{behind_branches}
 use Rattle.dfa_paths.specs.Graph.{IsNodeIn}
 use Rattle.dfa_paths.specs.Fragment as fragment
-use Rattle.dfa_paths.specs.Fragment.{Part, IsNode, Copies, Options, VerbPlaced, Placed, AllPlaced, AnyPlaced, BehindPlaced, HasBack, TestPlaced, OtherPlaced}
-use Rattle.dfa_graph.specs.Building.{part_of, IsRange, IsTurnRange, ids_of, one_less, part_step, second_step, cond_step, ask_step, ask_second, look_node, verb_step, all_step, any_step, turn_step, turns_step, behind_step, so_at, else_at, node_of, step_of, TurnPlaced, tree_of, row_from, WorkPlaced, IsPart}
+use Rattle.dfa_paths.specs.Fragment.{Part, IsNode, Copies, Options, VerbPlaced, Placed, AllPlaced, AnyPlaced}
+use Rattle.dfa_paths.specs.Fragment.{BehindPlaced, HasBack, TestPlaced, OtherPlaced}
+use Rattle.dfa_graph.specs.Building.{part_of, IsRange, IsTurnRange, ids_of, one_less, part_step, second_step}
+use Rattle.dfa_graph.specs.Building.{cond_step, ask_step, ask_second, look_node, verb_step, all_step, any_step}
+use Rattle.dfa_graph.specs.Building.{turn_step, turns_step, behind_step, so_at, else_at, node_of, step_of}
+use Rattle.dfa_graph.specs.Building.{TurnPlaced, tree_of, row_from, WorkPlaced, IsPart}
 use Rattle.dfa_paths.proofs.Behind.{IsMeasured, IsReady, AreTold, is_behind, known_branch, all_here}
 
 -- Lists.

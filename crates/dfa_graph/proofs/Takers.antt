@@ -1,6 +1,7 @@
 -- How many states of a graph take something: at most as many as its tree has nodes with the repeats
 -- written out.
-use Rattle.std.proofs.Common.{◌≡◌, ◌∙◌, ℕ, zero, suc, ◌+◌, ◌-◌, ◌*◌, ◌≤◌, Bool, true, false, List, [], ◌∷◌, ◌++◌, map, length, Option, Some, None, refl, sym, ap, subst, arith}
+use Rattle.std.proofs.Common.{◌≡◌, ◌∙◌, ℕ, zero, suc, ◌+◌, ◌-◌, ◌*◌, ◌≤◌, Bool, true, false, List, [], ◌∷◌, ◌++◌}
+use Rattle.std.proofs.Common.{map, length, Option, Some, None, refl, sym, ap, subst, arith}
 use Rattle.std.proofs.lemmas.Nat.{mul-le}
 use Rattle.std.proofs.lemmas.Bool.{false≢true}
 use Rattle.std.specs.Prelude.{◌==◌, slice_get, slice_set, option_map}
@@ -24,7 +25,10 @@ use Rattle.dfa_graph.specs.declared.build.Task.{Task}
 use Rattle.dfa_graph.specs.declared.build.Step.{Step}
 use Rattle.dfa_graph.specs.declared.build.Step.TheVariants as step
 use Rattle.dfa_paths.specs.Graph.{takes, count_if, takers}
-use Rattle.dfa_graph.specs.Building.{part_of, IsRange, ids_of, part_step, second_step, cond_step, ask_step, ask_second, nested_step, look_node, verb_step, all_step, any_step, turn_step, turns_step, behind_step, so_at, else_at, node_of, step_of, task_in, states_after, tasks_after, tree_of, row_from, IsPart}
+use Rattle.dfa_graph.specs.Building.{part_of, IsRange, ids_of, part_step, second_step, cond_step, ask_step}
+use Rattle.dfa_graph.specs.Building.{ask_second, nested_step, look_node, verb_step, all_step, any_step, turn_step}
+use Rattle.dfa_graph.specs.Building.{turns_step, behind_step, so_at, else_at, node_of, step_of, task_in}
+use Rattle.dfa_graph.specs.Building.{states_after, tasks_after, tree_of, row_from, IsPart}
 use Rattle.dfa_paths.specs.Fragment.{most_nested}
 use Rattle.dfa_graph.proofs.Steps.{IsWork}
 use Rattle.dfa_graph.proofs.Tasks.{sum_of, sum_append}

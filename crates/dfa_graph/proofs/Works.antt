@@ -1,5 +1,6 @@
 -- The works that a step leaves may be done, and its states lie in the graph.
-use Rattle.std.proofs.Common.{◌≡◌, ◌∙◌, ℕ, zero, suc, ◌+◌, ◌<◌, ◌≤◌, Bool, true, false, List, [], ◌∷◌, map, length, Option, Some, None, refl, sym, ap, subst, arith}
+use Rattle.std.proofs.Common.{◌≡◌, ◌∙◌, ℕ, zero, suc, ◌+◌, ◌<◌, ◌≤◌, Bool, true, false, List, [], ◌∷◌, map, length}
+use Rattle.std.proofs.Common.{Option, Some, None, refl, sym, ap, subst, arith}
 use Rattle.std.specs.Prelude as list
 use Rattle.std.specs.Prelude.{◌==◌, slice_get, option_map}
 use Rattle.pat_tree.specs.declared.nodes.Placed as placed
@@ -17,7 +18,9 @@ use Rattle.dfa_graph.specs.declared.build.Work.TheVariants as work
 use Rattle.dfa_graph.specs.declared.build.Work.TheVariants.{All, Any, Turn, Ask, Behind}
 use Rattle.dfa_graph.specs.declared.build.Step.{Step}
 use Rattle.dfa_graph.specs.declared.build.Step.TheVariants as step
-use Rattle.dfa_graph.specs.Building.{part_of, IsRange, ids_of, one_less, part_step, second_step, cond_step, ask_step, ask_second, nested_step, verb_step, all_step, any_step, turn_step, turns_step, behind_step, node_of, step_of, IsPart}
+use Rattle.dfa_graph.specs.Building.{part_of, IsRange, ids_of, one_less, part_step, second_step, cond_step, ask_step}
+use Rattle.dfa_graph.specs.Building.{ask_second, nested_step, verb_step, all_step, any_step, turn_step, turns_step}
+use Rattle.dfa_graph.specs.Building.{behind_step, node_of, step_of, IsPart}
 use Rattle.dfa_paths.proofs.Behind.{IsMeasured, IsReady, is_behind, all_below}
 use Rattle.dfa_graph.proofs.Steps.{all_get, ids_below, last_kid, test_after, IsIn, NoIn, IsWork, IsStep}
 

@@ -1,5 +1,7 @@
 -- The building of a graph, task by task.
-use Rattle.std.specs.Prelude.{◌≡◌, ℕ, zero, suc, ◌+◌, ◌-◌, ◌<◌, ◌≤◌, Bool, true, false, List, [], ◌∷◌, ◌++◌, map, drop, length, Option, Some, None, ◌==◌, slice_get, slice_set, slice_index_or, option_map}
+use Rattle.std.specs.Prelude.{◌≡◌, ℕ, zero, suc, ◌+◌, ◌-◌, ◌<◌, ◌≤◌, Bool, true, false, List, [], ◌∷◌, ◌++◌, map}
+use Rattle.std.specs.Prelude.{drop, length, Option, Some, None, ◌==◌, slice_get, slice_set, slice_index_or}
+use Rattle.std.specs.Prelude.{option_map}
 use Rattle.std.specs.Prelude as list
 use Rattle.pat_tree.specs.declared.nodes.Placed as placed
 use Rattle.pat_tree.specs.declared.nodes.Node as parts
@@ -18,7 +20,8 @@ use Rattle.dfa_graph.specs.declared.build.Work.TheVariants as work
 use Rattle.dfa_graph.specs.declared.build.Work.TheVariants.{All, Any, Turn, Ask, Behind}
 use Rattle.dfa_graph.specs.declared.build.Task.{Task}
 use Rattle.dfa_graph.specs.declared.build.Step.{Step}
-use Rattle.dfa_graph.specs.declared.build.Step.TheVariants.{Refuse, Write, Hand, Chain, Loop, Fork, Skip, Keep, Assert, Choose, Seek, Decide, Reach}
+use Rattle.dfa_graph.specs.declared.build.Step.TheVariants.{Refuse, Write, Hand, Chain, Loop, Fork, Skip, Keep}
+use Rattle.dfa_graph.specs.declared.build.Step.TheVariants.{Assert, Choose, Seek, Decide, Reach}
 use Rattle.dfa_paths.specs.Fragment as fragment
 use Rattle.dfa_paths.specs.Fragment.{Part, IsNode, Placed, AllPlaced, AnyPlaced, BehindPlaced, TestPlaced, OtherPlaced}
 

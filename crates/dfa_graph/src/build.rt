@@ -1,8 +1,11 @@
 //! A graph of a tree: tasks, each of which places a part from a state that is there on to a state
 //! that follows.
-ghost use Rattle.std.specs.Prelude.{◌≡◌, List, true, None, IfSome, ◌+◌, ◌<◌, ◌≤◌, ◌==◌, All, IfOk, length, option_map, slice_get};
+ghost use Rattle.std.specs.Prelude.{◌≡◌, List, true, None, IfSome, ◌+◌, ◌<◌, ◌≤◌, ◌==◌, All, IfOk, length};
+ghost use Rattle.std.specs.Prelude.{option_map, slice_get};
 ghost use Rattle.pat_tree.specs.declared.nodes.Placed.{Placed};
-ghost use Rattle.dfa_graph.specs.Building.{part_of, ids_of, IsRange, IsTurnRange, part_step, all_step, any_step, turn_step, turns_step, behind_step, step_of, node_of, IsPart, tree_of, cond_step, ask_step, nested_step, look_step, verb_step, is_refused};
+ghost use Rattle.dfa_graph.specs.Building.{part_of, ids_of, IsRange, IsTurnRange, part_step, all_step, any_step};
+ghost use Rattle.dfa_graph.specs.Building.{turn_step, turns_step, behind_step, step_of, node_of, IsPart, tree_of};
+ghost use Rattle.dfa_graph.specs.Building.{cond_step, ask_step, nested_step, look_step, verb_step, is_refused};
 ghost use Rattle.dfa_graph.specs.declared.build.Work.TheVariants as work;
 ghost use Rattle.pat_lengths.specs.Backs.{AreBacks, first_fault};
 ghost use Rattle.pat_check.specs.Support.{dfa_support};

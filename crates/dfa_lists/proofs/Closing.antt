@@ -1,5 +1,7 @@
 -- The loop that follows what takes nothing.
-use Rattle.std.proofs.Common.{◌≡◌, ◌∙◌, ℕ, zero, suc, ◌+◌, ◌*◌, ◌<◌, ◌≤◌, ◌⊎◌, Bool, true, false, List, [], ◌∷◌, ◌++◌, length, replicate, Some, refl, sym, ap, subst, inl, inr, arith, length-set, length-append}
+use Rattle.std.proofs.Common.{◌≡◌, ◌∙◌, ℕ, zero, suc, ◌+◌, ◌*◌, ◌<◌, ◌≤◌, ◌⊎◌, Bool, true, false, List, [], ◌∷◌}
+use Rattle.std.proofs.Common.{◌++◌, length, replicate, Some, refl, sym, ap, subst, inl, inr, arith, length-set}
+use Rattle.std.proofs.Common.{length-append}
 use Rattle.std.specs.Prelude.{◌&&◌, ◌||◌, not, slice_get, slice_index_or, slice_set}
 use Rattle.std.proofs.lemmas.List.{length-replicate}
 use Rattle.match_items.specs.Scene.{Scene}
@@ -8,11 +10,13 @@ use Rattle.dfa_ends.specs.Ends.{Among}
 use Rattle.dfa_paths.specs.declared.graph.Node.{Node}
 use Rattle.dfa_paths.specs.declared.graph.Node.TheVariants.{One, Break, Anchor, Split, Goto, Look, Atomic, Dead, Match}
 use Rattle.dfa_lists.specs.declared.lists.Seed.{Seed}
-use Rattle.dfa_paths.specs.Graph.{takes, is_match, moves, Inner, Follows, Leaps, Comes, here, on, AllBelow, IsNodeIn, IsGraph, count_if, takers}
+use Rattle.dfa_paths.specs.Graph.{takes, is_match, moves, Inner, Follows, Leaps, Comes, here, on, AllBelow, IsNodeIn}
+use Rattle.dfa_paths.specs.Graph.{IsGraph, count_if, takers}
 use Rattle.dfa_lists.specs.Lists.{IsTaking, IsMatching, IsClosed, IsVisited, closure, waiting, Leaping, Waits, kept}
 use Rattle.dfa_lists.proofs.Landing.{waits_first, waits_second, waits_append}
 use Rattle.dfa_paths.proofs.Coming.{node_same}
-use Rattle.dfa_paths.proofs.Places.{among_first, among_second, among_append, among_one, among_last, among_push, or_left, or_right, or_cases}
+use Rattle.dfa_paths.proofs.Places.{among_first, among_second, among_append, among_one, among_last, among_push}
+use Rattle.dfa_paths.proofs.Places.{or_left, or_right, or_cases}
 use Rattle.dfa_lists.proofs.Kept.{kept_old, kept_new, kept_cases}
 
 unfoldable pub Marked : List Bool → ℕ → Type 0

@@ -1,5 +1,7 @@
 -- What follows a state at one place, where a search stands, and how many tests it makes.
-use Rattle.std.proofs.Common.{◌≡◌, ◌∙◌, ℕ, zero, suc, ◌+◌, ◌-◌, ◌*◌, ◌<◌, ◌≤◌, ◌⊎◌, Bool, true, false, List, [], ◌∷◌, ◌++◌, length, Option, Some, None, refl, sym, ap, subst, inl, inr, arith, ltb-true, ltb-false}
+use Rattle.std.proofs.Common.{◌≡◌, ◌∙◌, ℕ, zero, suc, ◌+◌, ◌-◌, ◌*◌, ◌<◌, ◌≤◌, ◌⊎◌, Bool, true, false, List, [], ◌∷◌}
+use Rattle.std.proofs.Common.{◌++◌, length, Option, Some, None, refl, sym, ap, subst, inl, inr, arith, ltb-true}
+use Rattle.std.proofs.Common.{ltb-false}
 use Rattle.std.proofs.lemmas.Nat.{mul-le}
 use Rattle.std.specs.Prelude.{◌||◌, not, nat_lt, slice_get, slice_index, IsTrue, IsCharBoundary}
 use Rattle.pat_tree.specs.declared.nodes.Item.TheVariants.{AnyAll}
@@ -10,7 +12,9 @@ use Rattle.dfa_ends.proofs.Steps.{break_steps}
 use Rattle.dfa_paths.specs.declared.graph.Node.{Node}
 use Rattle.dfa_paths.specs.declared.graph.Node.TheVariants.{One, Break, Anchor, Split, Goto, Look, Atomic, Dead, Match}
 use Rattle.dfa_lists.specs.declared.lists.Seed.{Seed}
-use Rattle.dfa_paths.specs.Graph.{takes, is_match, moves, lands, target, Inner, Furthest, Begins, Follows, Leaps, Accepts, matched, moved, landed, ended, missed, went, Deep, SomeAccepts, Comes, here, on, IsNodeIn, count_if}
+use Rattle.dfa_paths.specs.Graph.{takes, is_match, moves, lands, target, Inner, Furthest, Begins, Follows, Leaps}
+use Rattle.dfa_paths.specs.Graph.{Accepts, matched, moved, landed, ended, missed, went, Deep, SomeAccepts, Comes}
+use Rattle.dfa_paths.specs.Graph.{here, on, IsNodeIn, count_if}
 use Rattle.dfa_paths.specs.Fragment.{Rising}
 use Rattle.dfa_lists.specs.Lists.{IsClosed, closure, kept, is_stop, stops, stops_from}
 use Rattle.dfa_paths.proofs.Places.{among_push}

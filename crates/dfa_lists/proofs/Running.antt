@@ -1,5 +1,6 @@
 -- The loop over the places.
-use Rattle.std.proofs.Common.{◌≡◌, ◌∙◌, ℕ, zero, suc, ◌+◌, ◌-◌, ◌*◌, ◌<◌, ◌≤◌, ◌⊎◌, Bool, false, List, [], ◌∷◌, ◌++◌, length, Some, None, refl, sym, ap, subst, inl, inr, arith}
+use Rattle.std.proofs.Common.{◌≡◌, ◌∙◌, ℕ, zero, suc, ◌+◌, ◌-◌, ◌*◌, ◌<◌, ◌≤◌, ◌⊎◌, Bool, false, List, [], ◌∷◌, ◌++◌}
+use Rattle.std.proofs.Common.{length, Some, None, refl, sym, ap, subst, inl, inr, arith}
 use Rattle.std.proofs.lemmas.Bool.{false≢true}
 use Rattle.std.specs.Prelude.{slice_get, slice_index_or}
 use Rattle.match_items.specs.Scene.{Scene}
@@ -7,14 +8,18 @@ use Rattle.match_items.specs.Laws.{Stands, StandsAlong}
 use Rattle.dfa_ends.specs.Ends.{Among}
 use Rattle.dfa_paths.specs.declared.graph.Node.{Node}
 use Rattle.dfa_lists.specs.declared.lists.Seed.{Seed}
-use Rattle.dfa_paths.specs.Graph.{Inner, IsFurthest, Accepts, matched, landed, Comes, here, AllBelow, IsGraph, IsFlat, takers}
+use Rattle.dfa_paths.specs.Graph.{Inner, IsFurthest, Accepts, matched, landed, Comes, here, AllBelow, IsGraph}
+use Rattle.dfa_paths.specs.Graph.{IsFlat, takers}
 use Rattle.dfa_lists.specs.Lists as lists
 use Rattle.dfa_paths.specs.Fragment.{Rising}
-use Rattle.dfa_lists.specs.Lists.{IsClosed, IsTakenAt, closure, progress, kept, waiting_at, elsewhere, Waits, Leaping, stops_from}
+use Rattle.dfa_lists.specs.Lists.{IsClosed, IsTakenAt, closure, progress, kept, waiting_at, elsewhere, Waits}
+use Rattle.dfa_lists.specs.Lists.{Leaping, stops_from}
 use Rattle.dfa_paths.proofs.Places.{among_at, get_in}
 use Rattle.dfa_lists.proofs.Kept.{kept_old, kept_new, kept_cases}
-use Rattle.dfa_lists.proofs.Landing.{landed_none, holds_later, holds_still, Landing, landed_cases, parted, waits_here, waits_elsewhere, waits_append}
-use Rattle.dfa_lists.proofs.Following.{SomeWaits, EndsStand, rising_kept, match_is, lands_past, target_in, Gone, leave, leap_before, enter, comes_from, leaps_in, leaps_stand, more}
+use Rattle.dfa_lists.proofs.Landing.{landed_none, holds_later, holds_still, Landing, landed_cases, parted}
+use Rattle.dfa_lists.proofs.Landing.{waits_here, waits_elsewhere, waits_append}
+use Rattle.dfa_lists.proofs.Following.{SomeWaits, EndsStand, rising_kept, match_is, lands_past, target_in, Gone}
+use Rattle.dfa_lists.proofs.Following.{leave, leap_before, enter, comes_from, leaps_in, leaps_stand, more}
 
 pub record Running (g : Scene) (nodes : List Node) (B : Inner) (entry place at : ℕ)
     (pending : List Seed) (found : List ℕ) (old tests : ℕ) : Type 0 where

@@ -1,5 +1,6 @@
 -- What the lists tell of the subject's end.
-use Rattle.std.proofs.Common.{◌≡◌, ◌∙◌, ℕ, ◌+◌, ◌<◌, ◌≤◌, ◌⊎◌, Bool, true, false, List, [], ◌∷◌, ◌++◌, length, replicate, Option, Some, None, refl, Result, Ok, Err, sym, ap, subst, inl, inr, arith}
+use Rattle.std.proofs.Common.{◌≡◌, ◌∙◌, ℕ, ◌+◌, ◌<◌, ◌≤◌, ◌⊎◌, Bool, true, false, List, [], ◌∷◌, ◌++◌, length}
+use Rattle.std.proofs.Common.{replicate, Option, Some, None, refl, Result, Ok, Err, sym, ap, subst, inl, inr, arith}
 use Rattle.std.proofs.lemmas.Bool.{false≢true}
 use Rattle.std.specs.Prelude.{◌||◌, IfOk, drop, slice_get, slice_index_or, slice_set}
 use Rattle.char_sets.specs.Table.{CharSet}
@@ -13,8 +14,10 @@ use Rattle.dfa_paths.specs.declared.graph.Node.{Node}
 use Rattle.dfa_paths.specs.declared.graph.Node.TheVariants.{One, Break, Anchor, Split, Goto, Look, Atomic, Dead, Match}
 use Rattle.dfa_lists.specs.declared.lists.Seed.{Seed}
 use Rattle.dfa_lists.specs.declared.lists.Branch.{Branch}
-use Rattle.dfa_paths.specs.Graph.{nests, lands, Inner, Furthest, IsEndBehind, Follows, Leaps, Comes, here, on, IsGraph, IsFlat}
-use Rattle.dfa_paths.specs.Meets.{tells, Meeting, MeetsBehind, Probes, probed, further, Asks, Inside, Telling, Meets, met, followed, leapt, took, SomeTells, IsTold}
+use Rattle.dfa_paths.specs.Graph.{nests, lands, Inner, Furthest, IsEndBehind, Follows, Leaps, Comes, here, on}
+use Rattle.dfa_paths.specs.Graph.{IsGraph, IsFlat}
+use Rattle.dfa_paths.specs.Meets.{tells, Meeting, MeetsBehind, Probes, probed, further, Asks, Inside, Telling, Meets}
+use Rattle.dfa_paths.specs.Meets.{met, followed, leapt, took, SomeTells, IsTold}
 use Rattle.dfa_lists.specs.Lists as lists
 use Rattle.dfa_lists.specs.Lists.{IsClosed, IsTakenAt, closure, progress, branch_in, waiting_at, elsewhere, Waits}
 use Rattle.dfa_paths.proofs.Coming.{node_same}

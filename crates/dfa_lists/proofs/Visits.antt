@@ -1,5 +1,6 @@
 -- What a visit of a state gives.
-use Rattle.std.proofs.Common.{◌≡◌, ◌∙◌, ℕ, zero, suc, ◌<◌, ◌≤◌, Bool, true, false, List, [], ◌∷◌, ◌++◌, length, Option, Some, None, refl, Result, Ok, Err, sym, ap, subst, inl, inr, arith, eqb-true}
+use Rattle.std.proofs.Common.{◌≡◌, ◌∙◌, ℕ, zero, suc, ◌<◌, ◌≤◌, Bool, true, false, List, [], ◌∷◌, ◌++◌, length}
+use Rattle.std.proofs.Common.{Option, Some, None, refl, Result, Ok, Err, sym, ap, subst, inl, inr, arith, eqb-true}
 use Rattle.std.specs.Prelude.{◌==◌, drop, slice_get, IfOk}
 use Rattle.char_sets.specs.Table.{CharSet}
 use Rattle.match_items.specs.declared.view.View.{View}

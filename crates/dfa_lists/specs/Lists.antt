@@ -1,12 +1,15 @@
 -- Lists of states, at one place and over places.
-use Rattle.std.specs.Prelude.{◌≡◌, ℕ, ◌<◌, ◌+◌, ◌≤◌, ◌⊎◌, Bool, true, false, List, [], ◌∷◌, ◌++◌, ◌||◌, ◌-◌, not, nat_lt, zero, suc, length, Option, Some, None, ◌==◌, slice_get, slice_index, slice_index_or}
+use Rattle.std.specs.Prelude.{◌≡◌, ℕ, ◌<◌, ◌+◌, ◌≤◌, ◌⊎◌, Bool, true, false, List, [], ◌∷◌, ◌++◌, ◌||◌, ◌-◌, not}
+use Rattle.std.specs.Prelude.{nat_lt, zero, suc, length, Option, Some, None, ◌==◌, slice_get, slice_index}
+use Rattle.std.specs.Prelude.{slice_index_or}
 use Rattle.match_items.specs.Scene.{Scene}
 use Rattle.dfa_ends.specs.Ends.{Among}
 use Rattle.dfa_paths.specs.declared.graph.Node.{Node}
 use Rattle.dfa_paths.specs.declared.graph.Node.TheVariants.{Look, Dead}
 use Rattle.dfa_lists.specs.declared.lists.Seed.{Seed}
 use Rattle.dfa_lists.specs.declared.lists.Branch.{Branch}
-use Rattle.dfa_paths.specs.Graph.{Inner, Follows, Leaps, IsFlat, takes, is_match, lands, target, takers, count_if, Comes}
+use Rattle.dfa_paths.specs.Graph.{Inner, Follows, Leaps, IsFlat, takes, is_match, lands, target, takers, count_if}
+use Rattle.dfa_paths.specs.Graph.{Comes}
 
 abbrev pub IsTaking : List Node → ℕ → Type 0
 IsTaking nodes q = (n : Node) × (slice_get nodes q ≡ Some n) × (takes n ≡ true)

@@ -1,14 +1,18 @@
 //! All ends of a graph at one place, by lists of states, one character at a time (pcre2matching, "The
 //! alternative matching algorithm").
-ghost use Rattle.std.specs.Prelude.{◌≡◌, ℕ, suc, ◌+◌, ◌*◌, ◌<◌, ◌≤◌, ◌++◌, ◌∷◌, ◌||◌, List, [], Some, IfOk, length, replicate, true, false};
+ghost use Rattle.std.specs.Prelude.{◌≡◌, ℕ, suc, ◌+◌, ◌*◌, ◌<◌, ◌≤◌, ◌++◌, ◌∷◌, ◌||◌, List, [], Some, IfOk, length};
+ghost use Rattle.std.specs.Prelude.{replicate, true, false};
 ghost use Rattle.match_items.specs.Subjects.{IsText, IsTextPlace};
 ghost use Rattle.match_items.specs.Views.{bare_text, text_scene};
 ghost use Rattle.dfa_ends.specs.Ends.{Among};
-ghost use Rattle.dfa_paths.specs.Graph.{takes, is_match, nests, moves, lands, target, takers, AllBelow, IsNodeIn, IsFlat, IsFurthest, IsEndBehind};
+ghost use Rattle.dfa_paths.specs.Graph.{takes, is_match, nests, moves, lands, target, takers, AllBelow, IsNodeIn};
+ghost use Rattle.dfa_paths.specs.Graph.{IsFlat, IsFurthest, IsEndBehind};
 ghost use Rattle.dfa_paths.specs.Meets.{tells, Probes, MeetsBehind, IsTold};
 ghost use Rattle.dfa_paths.specs.Fragment.{Rising};
-ghost use Rattle.dfa_lists.specs.Searches.{scene_of, PathsOf, MeetsOf, AsksOf, TellsOf, SomeTellsOf, IsClosedOf, IsTakenOf, IsSearch, IsPlaceOf};
-ghost use Rattle.dfa_lists.specs.Lists.{IsVisited, closure, progress, waiting, way_of, gone_here, gone_later, kept, waiting_at, elsewhere, landed, stops_from, branch_in};
+ghost use Rattle.dfa_lists.specs.Searches.{scene_of, PathsOf, MeetsOf, AsksOf, TellsOf, SomeTellsOf, IsClosedOf};
+ghost use Rattle.dfa_lists.specs.Searches.{IsTakenOf, IsSearch, IsPlaceOf};
+ghost use Rattle.dfa_lists.specs.Lists.{IsVisited, closure, progress, waiting, way_of, gone_here, gone_later, kept};
+ghost use Rattle.dfa_lists.specs.Lists.{waiting_at, elsewhere, landed, stops_from, branch_in};
 
 use crate::reaching::{break_reaches, item_reaches, looks_back, tell};
 use char_sets::ClassTable;

@@ -1,5 +1,6 @@
 -- The branches of lookbehinds have one length each, whatever stands around them.
-use Rattle.std.proofs.Common.{◌≡◌, ◌∙◌, ℕ, zero, suc, ◌<◌, ◌≤◌, Bool, true, false, List, [], ◌∷◌, ◌++◌, map, flat_map, All, Option, Some, None, get_or, refl, sym, ap, subst, arith, length}
+use Rattle.std.proofs.Common.{◌≡◌, ◌∙◌, ℕ, zero, suc, ◌<◌, ◌≤◌, Bool, true, false, List, [], ◌∷◌, ◌++◌, map}
+use Rattle.std.proofs.Common.{flat_map, All, Option, Some, None, get_or, refl, sym, ap, subst, arith, length}
 use Rattle.std.specs.Prelude.{◌==◌, ◌||◌, nat_le, slice_get, slice_index_or}
 use Rattle.std.specs.List.{list_any}
 use Rattle.std.specs.Option.{option_or}
@@ -20,9 +21,13 @@ use Rattle.pat_tree.proofs.Reached.{reached_node}
 use Rattle.node_flow.specs.Order.{order}
 use Rattle.node_flow.proofs.TreeLaws.{parts_come_first}
 use Rattle.pat_lengths.specs.declared.backs.LengthFault.{LengthFault}
-use Rattle.pat_lengths.specs.Nodes.{all_nodes, has_lookbehind, nodes, nodes_in, nodes_of_test, nodes_of_other, is_accept, captures}
-use Rattle.pat_lengths.specs.Lengths.{SomeLengths, between, only, in_turn, either, in_turns, lengths, lengths_in_turn, lengths_of_one, lengths_of_other, of_test, behind, any_length, branch_lengths, counted, too_long, branch_fault, by_calls, can_be_empty}
-use Rattle.pat_lengths.specs.Backs.{AreBacks, behind_branches, fault_from, lengths_at, fault_among, fault_of_node, fault_in, first_fault}
+use Rattle.pat_lengths.specs.Nodes.{all_nodes, has_lookbehind, nodes, nodes_in, nodes_of_test, nodes_of_other}
+use Rattle.pat_lengths.specs.Nodes.{is_accept, captures}
+use Rattle.pat_lengths.specs.Lengths.{SomeLengths, between, only, in_turn, either, in_turns, lengths}
+use Rattle.pat_lengths.specs.Lengths.{lengths_in_turn, lengths_of_one, lengths_of_other, of_test, behind, any_length}
+use Rattle.pat_lengths.specs.Lengths.{branch_lengths, counted, too_long, branch_fault, by_calls, can_be_empty}
+use Rattle.pat_lengths.specs.Backs.{AreBacks, behind_branches, fault_from, lengths_at, fault_among, fault_of_node}
+use Rattle.pat_lengths.specs.Backs.{fault_in, first_fault}
 use Rattle.pat_lengths.proofs.OrderLemmas.{node_first, nodes_at}
 use Rattle.dfa_ends.specs.pat_check.Support.{node_support, or_later, support_of_all, dfa_support}
 use Rattle.dfa_ends.specs.pat_check.declared.support.DfaSupport.{DfaSupport}

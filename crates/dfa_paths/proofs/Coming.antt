@@ -1,5 +1,6 @@
 -- What a path that begins in a fragment comes to.
-use Rattle.std.proofs.Common.{◌≡◌, ◌∙◌, ℕ, zero, suc, ◌+◌, ◌-◌, ◌<◌, ◌≤◌, ◌⊎◌, true, false, List, Option, Some, None, refl, sym, ap, subst, inl, inr, arith}
+use Rattle.std.proofs.Common.{◌≡◌, ◌∙◌, ℕ, zero, suc, ◌+◌, ◌-◌, ◌<◌, ◌≤◌, ◌⊎◌, true, false, List, Option, Some, None}
+use Rattle.std.proofs.Common.{refl, sym, ap, subst, inl, inr, arith}
 use Rattle.std.proofs.lemmas.Bool.{false≢true}
 use Rattle.std.specs.Prelude.{◌==◌, slice_get}
 use Rattle.pat_tree.specs.declared.nodes.Item.{Item}
@@ -9,11 +10,14 @@ use Rattle.pat_tree.specs.Nested.{Nested, Row, Test}
 use Rattle.match_items.specs.Scene.{Scene}
 use Rattle.match_items.specs.Items.{after_item, after_break, holds}
 use Rattle.dfa_ends.specs.ordered_search.Setting.{Setting, branch_lengths}
-use Rattle.dfa_ends.specs.Ends.{spot, Spot, Way, Among, HasOne, HasNone, Times, Within, Counted, begun, TryEnds, AnyEndsBehind, seen, ItemEnds, BreakEnds, AnchorEnds, Ends, AnyEnds, IsSo, IsNot}
+use Rattle.dfa_ends.specs.Ends.{spot, Spot, Way, Among, HasOne, HasNone, Times, Within, Counted, begun, TryEnds}
+use Rattle.dfa_ends.specs.Ends.{AnyEndsBehind, seen, ItemEnds, BreakEnds, AnchorEnds, Ends, AnyEnds, IsSo, IsNot}
 use Rattle.dfa_paths.specs.declared.graph.Node.{Node}
 use Rattle.dfa_paths.specs.declared.graph.Node.TheVariants.{One, Break, Anchor, Split, Goto, Look, Atomic, Dead, Match}
-use Rattle.dfa_paths.specs.Graph.{nests, moves, lands, target, Inner, Begins, Accepts, matched, moved, landed, ended, missed, went}
-use Rattle.dfa_paths.specs.Fragment.{Part, IsAt, IsNode, Copies, Options, Loop, Turns, Placed, AnyPlaced, TestPlaced, HasBack, BehindPlaced}
+use Rattle.dfa_paths.specs.Graph.{nests, moves, lands, target, Inner, Begins, Accepts, matched, moved, landed, ended}
+use Rattle.dfa_paths.specs.Graph.{missed, went}
+use Rattle.dfa_paths.specs.Fragment.{Part, IsAt, IsNode, Copies, Options, Loop, Turns, Placed, AnyPlaced, TestPlaced}
+use Rattle.dfa_paths.specs.Fragment.{HasBack, BehindPlaced}
 use Rattle.dfa_paths.proofs.Places.{among_one}
 use Rattle.dfa_paths.proofs.Short as short
 use Rattle.dfa_paths.proofs.Short.{none_some, anchor_if, land_comes}
@@ -52,7 +56,8 @@ look_atomic z a b c d e h = cc
 same_back : (z : Option ℕ) (a b c : ℕ) (y : Option ℕ) (p q r : ℕ) → ◌≡◌ {A = Node} (Look z a b c) (Look y p q r) → z ≡ y
 same_back z a b c y p q r e = cc
 
-same_entry : (z : Option ℕ) (a b c : ℕ) (y : Option ℕ) (p q r : ℕ) → ◌≡◌ {A = Node} (Look z a b c) (Look y p q r) → a ≡ p
+same_entry : (z : Option ℕ) (a b c : ℕ) (y : Option ℕ) (p q r : ℕ) → ◌≡◌ {A = Node} (Look z a b c) (Look y p q r)
+    → a ≡ p
 same_entry z a b c y p q r e = cc
 
 same_hit : (z : Option ℕ) (a b c : ℕ) (y : Option ℕ) (p q r : ℕ) → ◌≡◌ {A = Node} (Look z a b c) (Look y p q r) → b ≡ q

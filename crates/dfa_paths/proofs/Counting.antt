@@ -1,11 +1,13 @@
 -- Where reaching the subject's end counts: everywhere, or only after a word anchor that was passed at
 -- the end.
-use Rattle.std.proofs.Common.{◌≡◌, ◌∙◌, ℕ, ◌<◌, ◌≤◌, ◌⊎◌, Bool, true, false, length, refl, sym, ap, inl, inr, arith, ltb-true, lt-ltb, le-leb}
+use Rattle.std.proofs.Common.{◌≡◌, ◌∙◌, ℕ, ◌<◌, ◌≤◌, ◌⊎◌, Bool, true, false, length, refl, sym, ap, inl, inr, arith}
+use Rattle.std.proofs.Common.{ltb-true, lt-ltb, le-leb}
 use Rattle.std.proofs.lemmas.Bool.{false≢true}
 use Rattle.std.specs.Prelude.{◌&&◌, ◌||◌, ◌==◌, IsTrue, not, min, nat_lt, nat_le}
 use Rattle.pat_tree.specs.declared.nodes.Item.{Item}
 use Rattle.pat_tree.specs.declared.nodes.AnchorKind.{AnchorKind}
-use Rattle.pat_tree.specs.declared.nodes.AnchorKind.TheVariants.{Caret, Dollar, SubjectStart, SubjectEnd, EndOrNewline, StartGiven, Word, NotWord}
+use Rattle.pat_tree.specs.declared.nodes.AnchorKind.TheVariants.{Caret, Dollar, SubjectStart, SubjectEnd}
+use Rattle.pat_tree.specs.declared.nodes.AnchorKind.TheVariants.{EndOrNewline, StartGiven, Word, NotWord}
 use Rattle.match_items.specs.Items.{item_reaches, break_reaches, anchor_reaches, earliest, place_before}
 use Rattle.dfa_ends.specs.ordered_search.Setting.{Setting, has_lookbehind, can_be_empty}
 use Rattle.dfa_ends.specs.Ends.{Spot, begun, seen, Counts, ItemReaches, BreakReaches, AnchorReaches}

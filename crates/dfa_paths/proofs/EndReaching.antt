@@ -1,21 +1,26 @@
 -- A path of a graph meets the subject's end where the graph's tree reaches it.
-use Rattle.std.proofs.Common.{◌≡◌, ◌∙◌, ℕ, zero, suc, ◌⊎◌, Bool, true, false, List, [], ◌∷◌, ◌++◌, Some, None, refl, sym, ap, subst, inl, inr, arith}
+use Rattle.std.proofs.Common.{◌≡◌, ◌∙◌, ℕ, zero, suc, ◌⊎◌, Bool, true, false, List, [], ◌∷◌, ◌++◌, Some, None, refl}
+use Rattle.std.proofs.Common.{sym, ap, subst, inl, inr, arith}
 use Rattle.std.proofs.lemmas.Bool.{false≢true}
 use Rattle.std.specs.Prelude.{◌||◌, slice_get}
 use Rattle.std.specs.List.{list_any}
 use Rattle.pat_tree.specs.declared.nodes.Verb.TheVariants.{Accept, Fail, Commit, Prune, Skip, Then, Mark}
 use Rattle.pat_tree.specs.Nested as tree
 use Rattle.pat_tree.specs.Nested.{Nested, Row, Test, Other}
-use Rattle.pat_lengths.specs.Nodes.{nodes as parts_of, is_lookbehind, all_nodes, nodes_in, nodes_of_test, nodes_of_other}
+use Rattle.pat_lengths.specs.Nodes.{nodes as parts_of, is_lookbehind, all_nodes, nodes_in, nodes_of_test}
+use Rattle.pat_lengths.specs.Nodes.{nodes_of_other}
 use Rattle.dfa_ends.specs.ordered_search.Setting.{Setting, branch_lengths}
-use Rattle.dfa_ends.specs.Ends.{Spot, spot, Spots, Way, Among, HasOne, HasNone, begun, TryEnds, TryReaches, ItemEnds, ItemReaches, Ends, AllEnd, AnyEnds, AnyEndsBehind, IsSo, IsNot, OtherEnds, Reaches, AllReach, AnyReaches, AnyReachesBehind, TestReaches, OtherReaches}
+use Rattle.dfa_ends.specs.Ends.{Spot, spot, Spots, Way, Among, HasOne, HasNone, begun, TryEnds, TryReaches, ItemEnds}
+use Rattle.dfa_ends.specs.Ends.{ItemReaches, Ends, AllEnd, AnyEnds, AnyEndsBehind, IsSo, IsNot, OtherEnds, Reaches}
+use Rattle.dfa_ends.specs.Ends.{AllReach, AnyReaches, AnyReachesBehind, TestReaches, OtherReaches}
 use Rattle.dfa_ends.proofs.ListLaw.{onward, onward_item}
 use Rattle.dfa_paths.specs.declared.graph.Node.{Node}
 use Rattle.dfa_paths.specs.declared.graph.Node.TheVariants.{One, Split, Look, Match}
 use Rattle.dfa_paths.specs.Graph as graph
 use Rattle.dfa_paths.specs.Graph.{Inner, Begins, Deep}
 use Rattle.dfa_paths.specs.Meets.{Meeting, MeetsBehind, HasEndBehind, Probes, probed, further, met, DeepMeets}
-use Rattle.dfa_paths.specs.Fragment.{Part, IsNode, IsLast, Placed, AllPlaced, AnyPlaced, BehindPlaced, TestPlaced, OtherPlaced, HasBack}
+use Rattle.dfa_paths.specs.Fragment.{Part, IsNode, IsLast, Placed, AllPlaced, AnyPlaced, BehindPlaced, TestPlaced}
+use Rattle.dfa_paths.specs.Fragment.{OtherPlaced, HasBack}
 use Rattle.dfa_paths.proofs.Probes.{at_branch, not_goto}
 use Rattle.dfa_paths.proofs.Counting.{Good, Lowered, IsBefore, good_on, good_begun}
 use Rattle.dfa_paths.proofs.Coming.{IsInner, try_so, try_is}
@@ -633,7 +638,8 @@ module _ (g : Setting) (nodes : List Node) (last : slice_get nodes 1 ≡ Some Ma
     probes_by d tree.none sure hit miss e x good p r = absurd r
     probes_by d (tree.more t ts) sure hit miss e x good p r =
         elim r [
-          | inl a ↦ probed e p.0 p.1 hit p.2 p.4 (branch_by d t (goes d t (always (all_nodes t) sure)) sure p.0 p.1 p.3 p.5 x good a)
+          | inl a ↦ probed e p.0 p.1 hit p.2 p.4
+              (branch_by d t (goes d t (always (all_nodes t) sure)) sure p.0 p.1 p.3 p.5 x good a)
           | inr b ↦ further e p.0 p.1 hit p.2 p.4 p.7
               (probes_by d ts sure hit miss p.2 x good p.6 b)
         ]
@@ -682,7 +688,8 @@ module _ (g : Setting) (nodes : List Node) (last : slice_get nodes 1 ≡ Some Ma
         passing.choose_on g nodes counts (B (suc d)) (M (suc d)) (AnyReaches g ts x)
         (HasOne (AnyEnds g ts x)) (HasNone (AnyEnds g ts x)) (Reaches g first)
         (OtherReaches g second) (Ends g first) (OtherEnds g second)
-        (λ e. Placed nodes first (suc d) e next) (λ e. OtherPlaced nodes second (suc d) e next) next e p.1 p.2 x h k good
+        (λ e. Placed nodes first (suc d) e next) (λ e. OtherPlaced nodes second (suc d) e next) next e p.1 p.2 x h k
+        good
         p.5.0 p.5.1
         (λ r. passing.ask_reach g nodes counts (B (suc d)) (M (suc d)) (AnyReaches g ts) p.0 p.1
         p.2 (rows_by d ts (any_go d ts q) p.0 p.4) e x good p.3 r)
@@ -694,7 +701,8 @@ module _ (g : Setting) (nodes : List Node) (last : slice_get nodes 1 ≡ Some Ma
         passing.choose_on g nodes counts (B (suc d)) (M (suc d)) (AnyReaches g ts x)
         (HasNone (AnyEnds g ts x)) (HasOne (AnyEnds g ts x)) (Reaches g first)
         (OtherReaches g second) (Ends g first) (OtherEnds g second)
-        (λ e. Placed nodes first (suc d) e next) (λ e. OtherPlaced nodes second (suc d) e next) next e p.2 p.1 x h k good
+        (λ e. Placed nodes first (suc d) e next) (λ e. OtherPlaced nodes second (suc d) e next) next e p.2 p.1 x h k
+        good
         p.5.1 p.5.0
         (λ r. passing.ask_reach g nodes counts (B (suc d)) (M (suc d)) (AnyReaches g ts) p.0 p.1
         p.2 (rows_by d ts (any_go d ts q) p.0 p.4) e x good p.3 r)

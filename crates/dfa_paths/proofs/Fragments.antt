@@ -7,13 +7,20 @@ use Rattle.pat_tree.specs.Nested.{Nested, Row, Test, Other}
 use Rattle.match_items.specs.Scene.{Scene}
 use Rattle.dfa_paths.specs.Fragment.{Rising}
 use Rattle.dfa_ends.specs.ordered_search.Setting.{Setting}
-use Rattle.dfa_ends.specs.Ends.{spot, Spot, Way, Among, HasOne, HasNone, AnyEndsBehind, ItemEnds, Ends, AllEnd, AnyEnds, OtherEnds}
+use Rattle.dfa_ends.specs.Ends.{spot, Spot, Way, Among, HasOne, HasNone, AnyEndsBehind, ItemEnds, Ends, AllEnd}
+use Rattle.dfa_ends.specs.Ends.{AnyEnds, OtherEnds}
 use Rattle.dfa_paths.specs.declared.graph.Node.{Node}
 use Rattle.dfa_paths.specs.declared.graph.Node.TheVariants.{One, Split, Match}
 use Rattle.dfa_paths.specs.Graph.{matched, moved, Deep}
-use Rattle.dfa_paths.specs.Fragment.{Part, most_nested, IsNode, Placed, AllPlaced, AnyPlaced, OtherPlaced, BehindPlaced, FragmentLaw, PathLaw, GraphParts, AreEnds}
-use Rattle.dfa_paths.proofs.Coming.{IsInner, From, size, Short, longer, at_split, ComeAll, comes_here, item_comes, break_comes, anchor_comes, turns_come, dead_short, Asked, more_comes, behind_comes_to, behind_comes_not, look_comes, miss_comes, atomic_comes, TestInner, test_comes}
-use Rattle.dfa_paths.proofs.Going.{GoAll, goes_here, go_here, item_goes, break_goes, anchor_goes, turns_go, ask_goes, ask_goes_not, more_hits, more_misses, atomic_goes, moved_to, TestGoes, test_goes, at_end}
+use Rattle.dfa_paths.specs.Fragment.{Part, most_nested, IsNode, Placed, AllPlaced, AnyPlaced, OtherPlaced}
+use Rattle.dfa_paths.specs.Fragment.{BehindPlaced, FragmentLaw, PathLaw, GraphParts, AreEnds}
+use Rattle.dfa_paths.proofs.Coming.{IsInner, From, size, Short, longer, at_split, ComeAll, comes_here, item_comes}
+use Rattle.dfa_paths.proofs.Coming.{break_comes, anchor_comes, turns_come, dead_short, Asked, more_comes}
+use Rattle.dfa_paths.proofs.Coming.{behind_comes_to, behind_comes_not, look_comes, miss_comes, atomic_comes}
+use Rattle.dfa_paths.proofs.Coming.{TestInner, test_comes}
+use Rattle.dfa_paths.proofs.Going.{GoAll, goes_here, go_here, item_goes, break_goes, anchor_goes, turns_go, ask_goes}
+use Rattle.dfa_paths.proofs.Going.{ask_goes_not, more_hits, more_misses, atomic_goes, moved_to, TestGoes, test_goes}
+use Rattle.dfa_paths.proofs.Going.{at_end}
 
 -- By the tree: nested paths are those of a smaller one, which lead to other ends.
 module _ (g : Setting) (nodes : List Node) (last : slice_get nodes 1 ≡ Some Match) where

@@ -1,5 +1,6 @@
 -- How a path goes through a fragment.
-use Rattle.std.proofs.Common.{◌≡◌, ◌∙◌, ℕ, zero, suc, ◌-◌, ◌≤◌, ◌⊎◌, Bool, true, false, List, [], ◌∷◌, Option, Some, None, refl, sym, ap, subst, inl, inr, arith}
+use Rattle.std.proofs.Common.{◌≡◌, ◌∙◌, ℕ, zero, suc, ◌-◌, ◌≤◌, ◌⊎◌, Bool, true, false, List, [], ◌∷◌, Option, Some}
+use Rattle.std.proofs.Common.{None, refl, sym, ap, subst, inl, inr, arith}
 use Rattle.std.specs.Prelude.{slice_get}
 use Rattle.pat_tree.specs.declared.nodes.Item.{Item}
 use Rattle.pat_tree.specs.declared.nodes.AnchorKind.{AnchorKind}
@@ -9,12 +10,15 @@ use Rattle.match_items.specs.Items.{after_item, after_break, holds}
 use Rattle.dfa_ends.specs.ordered_search.Setting.{Setting, branch_lengths}
 use Rattle.dfa_ends.specs.EndList.{In, ends_list}
 use Rattle.dfa_ends.proofs.ListLaw.{list_law}
-use Rattle.dfa_ends.specs.Ends.{spot, Spot, Way, Among, HasOne, HasNone, GoesTo, Times, begun, TryEnds, AnyEndsBehind, ItemEnds, BreakEnds, AnchorEnds, Ends, AnyEnds, IsSo, IsNot}
+use Rattle.dfa_ends.specs.Ends.{spot, Spot, Way, Among, HasOne, HasNone, GoesTo, Times, begun, TryEnds}
+use Rattle.dfa_ends.specs.Ends.{AnyEndsBehind, ItemEnds, BreakEnds, AnchorEnds, Ends, AnyEnds, IsSo, IsNot}
 use Rattle.dfa_paths.specs.declared.graph.Node.{Node}
 use Rattle.dfa_paths.specs.declared.graph.Node.TheVariants.{One, Break, Anchor, Split, Goto, Look, Atomic, Match}
 use Rattle.dfa_paths.specs.Graph.{moves, lands, Inner, Accepts, matched, moved, landed, ended, missed, went}
-use Rattle.dfa_paths.specs.Fragment.{Part, IsAt, IsNode, Copies, Options, Loop, Turns, Placed, TestPlaced, HasBack, BehindPlaced}
-use Rattle.dfa_paths.proofs.Coming.{node_same, look_match, atomic_match, here_begins, begins_here, IsInner, place_of, From, Bounded, try_so, try_is, FurthestEnd, Chosen, TestInner}
+use Rattle.dfa_paths.specs.Fragment.{Part, IsAt, IsNode, Copies, Options, Loop, Turns, Placed, TestPlaced, HasBack}
+use Rattle.dfa_paths.specs.Fragment.{BehindPlaced}
+use Rattle.dfa_paths.proofs.Coming.{node_same, look_match, atomic_match, here_begins, begins_here, IsInner, place_of}
+use Rattle.dfa_paths.proofs.Coming.{From, Bounded, try_so, try_is, FurthestEnd, Chosen, TestInner}
 use Rattle.dfa_paths.proofs.Short.{none_some}
 use Rattle.dfa_paths.proofs.Turns.{split}
 

@@ -1,12 +1,14 @@
 -- What a path that meets the subject's end passes in a fragment.
-use Rattle.std.proofs.Common.{◌≡◌, ◌∙◌, ℕ, zero, suc, ◌+◌, ◌-◌, ◌<◌, ◌≤◌, ◌⊎◌, Bool, false, List, Option, Some, None, refl, sym, subst, inl, inr, arith}
+use Rattle.std.proofs.Common.{◌≡◌, ◌∙◌, ℕ, zero, suc, ◌+◌, ◌-◌, ◌<◌, ◌≤◌, ◌⊎◌, Bool, false, List, Option, Some, None}
+use Rattle.std.proofs.Common.{refl, sym, subst, inl, inr, arith}
 use Rattle.std.proofs.lemmas.Bool.{false≢true}
 use Rattle.std.specs.Prelude.{IsTrue, not, slice_get}
 use Rattle.pat_tree.specs.declared.nodes.Item.{Item}
 use Rattle.pat_tree.specs.declared.nodes.AnchorKind.{AnchorKind}
 use Rattle.match_items.specs.Items.{after_item, after_break, holds}
 use Rattle.dfa_ends.specs.ordered_search.Setting.{Setting}
-use Rattle.dfa_ends.specs.Ends.{Spot, spot, Spots, Way, Among, HasOne, HasNone, Times, Within, Below, seen, ItemEnds, BreakEnds, AnchorEnds, ItemReaches, BreakReaches, AnchorReaches}
+use Rattle.dfa_ends.specs.Ends.{Spot, spot, Spots, Way, Among, HasOne, HasNone, Times, Within, Below, seen, ItemEnds}
+use Rattle.dfa_ends.specs.Ends.{BreakEnds, AnchorEnds, ItemReaches, BreakReaches, AnchorReaches}
 use Rattle.dfa_paths.specs.declared.graph.Node.{Node}
 use Rattle.dfa_paths.specs.declared.graph.Node.TheVariants.{One, Break, Anchor, Split, Goto, Look, Atomic, Dead, Match}
 use Rattle.dfa_paths.specs.Graph.{Inner, Furthest, Begins, Follows, Leaps, lands, target}

@@ -1,11 +1,13 @@
 -- How a path comes to meet the subject's end through a fragment.
-use Rattle.std.proofs.Common.{◌≡◌, ℕ, zero, suc, ◌-◌, ◌<◌, ◌≤◌, ◌⊎◌, Bool, true, false, List, [], ◌∷◌, Option, Some, None, refl, sym, ap, subst, inl, inr, arith}
+use Rattle.std.proofs.Common.{◌≡◌, ℕ, zero, suc, ◌-◌, ◌<◌, ◌≤◌, ◌⊎◌, Bool, true, false, List, [], ◌∷◌, Option, Some}
+use Rattle.std.proofs.Common.{None, refl, sym, ap, subst, inl, inr, arith}
 use Rattle.std.proofs.lemmas.Bool.{cases_lt}
 use Rattle.pat_tree.specs.declared.nodes.Item.{Item}
 use Rattle.pat_tree.specs.declared.nodes.AnchorKind.{AnchorKind}
 use Rattle.match_items.specs.Items.{after_item, item_reaches, after_break, break_reaches, holds}
 use Rattle.dfa_ends.specs.ordered_search.Setting.{Setting}
-use Rattle.dfa_ends.specs.Ends.{Spot, spot, Spots, Way, Among, HasOne, HasNone, GoesTo, Times, Within, Below, ItemEnds, BreakEnds, AnchorEnds, ItemReaches, BreakReaches, AnchorReaches}
+use Rattle.dfa_ends.specs.Ends.{Spot, spot, Spots, Way, Among, HasOne, HasNone, GoesTo, Times, Within, Below}
+use Rattle.dfa_ends.specs.Ends.{ItemEnds, BreakEnds, AnchorEnds, ItemReaches, BreakReaches, AnchorReaches}
 use Rattle.dfa_paths.specs.declared.graph.Node.{Node}
 use Rattle.dfa_paths.specs.declared.graph.Node.TheVariants.{One, Break, Anchor, Split, Goto, Look, Atomic}
 use Rattle.dfa_paths.specs.Graph.{Inner, Follows}

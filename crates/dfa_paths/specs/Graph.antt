@@ -1,5 +1,6 @@
 -- Paths of a graph of states over a subject.
-use Rattle.std.specs.Prelude.{◌≡◌, ℕ, zero, suc, ◌+◌, ◌≤◌, ◌<◌, ◌⊎◌, Bool, true, false, All, List, [], ◌∷◌, length, drop, Option, Some, None, slice_get}
+use Rattle.std.specs.Prelude.{◌≡◌, ℕ, zero, suc, ◌+◌, ◌≤◌, ◌<◌, ◌⊎◌, Bool, true, false, All, List, [], ◌∷◌, length}
+use Rattle.std.specs.Prelude.{drop, Option, Some, None, slice_get}
 use Rattle.pat_tree.specs.Rules.{class_in}
 use Rattle.match_items.specs.Scene.{Scene}
 use Rattle.match_items.specs.Items.{places_back, after_item, after_break, holds}

@@ -1,5 +1,6 @@
 -- Paths of a graph that meet the subject's end (pcre2partial, "Partial matching in PCRE2").
-use Rattle.std.specs.Prelude.{◌≡◌, ℕ, zero, suc, ◌<◌, ◌⊎◌, Bool, true, false, ◌&&◌, ◌||◌, not, ◌==◌, IsTrue, List, length, Option, Some, None, slice_get}
+use Rattle.std.specs.Prelude.{◌≡◌, ℕ, zero, suc, ◌<◌, ◌⊎◌, Bool, true, false, ◌&&◌, ◌||◌, not, ◌==◌, IsTrue, List}
+use Rattle.std.specs.Prelude.{length, Option, Some, None, slice_get}
 use Rattle.pat_tree.specs.declared.nodes.AnchorKind.{AnchorKind}
 use Rattle.pat_tree.specs.declared.nodes.AnchorKind.TheVariants.{Word, NotWord}
 use Rattle.match_items.specs.Scene.{Scene}

@@ -1,5 +1,5 @@
-//! The states of a graph and what their paths mean, with the laws between paths and trees. No call here makes a graph or
-//! searches one.
+//! The states of a graph and what their paths mean, with the laws between paths and trees. No call here makes a graph
+//! or searches one.
 #![tactic(auto)]
 
 mod graph;

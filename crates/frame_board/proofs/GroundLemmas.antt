@@ -1,5 +1,7 @@
 -- What a finished tree and a subject owe to the machine.
-use Rattle.std.proofs.Common.{◌≡◌, ◌∙◌, ℕ, zero, suc, ◌-◌, ◌<◌, ◌≤◌, ℤ, Bool, true, false, ◌==◌, ◌&&◌, ◌||◌, not, if◌then◌else◌, List, [], ◌∷◌, ◌++◌, Option, Some, None, All, length, take, drop, get_or, chars, sum_by, ◌+◌, refl, sym, ap, subst, arith, inl, inr}
+use Rattle.std.proofs.Common.{◌≡◌, ◌∙◌, ℕ, zero, suc, ◌-◌, ◌<◌, ◌≤◌, ℤ, Bool, true, false, ◌==◌, ◌&&◌, ◌||◌, not}
+use Rattle.std.proofs.Common.{if◌then◌else◌, List, [], ◌∷◌, ◌++◌, Option, Some, None, All, length, take, drop}
+use Rattle.std.proofs.Common.{get_or, chars, sum_by, ◌+◌, refl, sym, ap, subst, arith, inl, inr}
 use Rattle.std.specs.Prelude.{slice_get, slice_index_or, nat_eq}
 use Rattle.std.specs.List.{IsDistinct, list_any, AllByRecursion}
 use Rattle.std.specs.Option.{unwrap_or}
@@ -38,7 +40,8 @@ use Rattle.pcre_io.specs.declared.callouts.Block.{Block}
 use Rattle.match_items.specs.declared.view.View.{View}
 use Rattle.match_items.specs.Subjects.{IsText}
 use Rattle.match_items.specs.Scene.{Scene}
-use Rattle.match_items.specs.Items.{one_less, is_none_left, after_item, item_reaches, run_places, longest_run, run_reaches, characters, width, after_text, after_ref, text_reaches, ref_reaches}
+use Rattle.match_items.specs.Items.{one_less, is_none_left, after_item, item_reaches, run_places, longest_run}
+use Rattle.match_items.specs.Items.{run_reaches, characters, width, after_text, after_ref, text_reaches, ref_reaches}
 use Rattle.match_items.specs.Views.{text_scene, told, maximum, fold_in}
 use Rattle.match_items.proofs.TextGround.{places_stand}
 use Rattle.frame_board.specs.Told.{place_in}
@@ -63,14 +66,19 @@ place_told None false = refl
 abbrev places_on : Option ℕ → (ℕ → List ℕ) → List ℕ
 places_on o more = elim o as (λ _. List ℕ) [ None ↦ [] | Some q ↦ q ∷ more q ]
 
-run_unbounded : (g : Scene) (item : Item) (n m p : ℕ) → n ≤ m → run_places g item n (Some m) p ≡ run_places g item n None p
+run_unbounded : (g : Scene) (item : Item) (n m p : ℕ) → n ≤ m
+    → run_places g item n (Some m) p ≡ run_places g item n None p
 unfolding run_places
 run_unbounded g item zero m p le = refl
 run_unbounded g item (suc n) zero p le = absurd (omega (arith, le))
 run_unbounded g item (suc n) (suc m) p le =
     let less : suc m - 1 ≡ m = omega arith in
     let some_left : (suc m == 0) ≡ false = grind (arith, nat_tests) in
-    ap (λ (b : Bool). elim b as (λ _. List ℕ) [ true ↦ [] | false ↦ places_on (after_item g item p) (run_places g item n (Some (suc m - 1))) ]) some_left
+    ap (λ (b : Bool). elim b as (λ _. List ℕ) [
+      | true ↦ []
+      | false ↦
+          places_on (after_item g item p) (run_places g item n (Some (suc m - 1)))
+    ]) some_left
     ∙ ap (λ x. places_on (after_item g item p) (run_places g item n (Some x))) less
     ∙ ap (places_on (after_item g item p)) (fun_ext (λ q. run_unbounded g item n m q (omega (arith, le))))
 
@@ -78,12 +86,14 @@ module _ (g : Scene) (item : Item) (p : ℕ) (short : length g.subject < 4294967
   all_of : (m : ℕ) → m ≡ 4294967295 → longest_run g item None p ≡ longest_run g item (Some m) p
   all_of m e = sym (run_unbounded g item (length g.subject) m p (omega (arith, short, e)))
 
-  some_of : (m : ℕ) (b : Bool) → (m == 4294967295) ≡ b → longest_run g item (if b then None else Some m) p ≡ longest_run g item (Some m) p
+  some_of : (m : ℕ) (b : Bool) → (m == 4294967295) ≡ b
+      → longest_run g item (if b then None else Some m) p ≡ longest_run g item (Some m) p
   some_of m true e = all_of m (eqb-true m 4294967295 e)
   some_of m false e = refl
 
   -- the greatest number of 32 bits in the place of no maximum
-  pub run_as : (most : Option ℕ) (m : ℕ) → m ≡ unwrap_or most 4294967295 → longest_run g item (maximum m) p ≡ longest_run g item most p
+  pub run_as : (most : Option ℕ) (m : ℕ) → m ≡ unwrap_or most 4294967295
+      → longest_run g item (maximum m) p ≡ longest_run g item most p
   run_as None m e = ap (λ x. longest_run g item (maximum x) p) e
   run_as (Some k) m e = ap (λ x. longest_run g item (maximum x) p) e ∙ some_of k (k == 4294967295) refl
 
@@ -93,25 +103,34 @@ run_few : (g : Scene) (item : Item) (n : ℕ) (most : Option ℕ) (p : ℕ) → 
 unfolding run_places
 run_few g item zero most p = omega arith
 run_few g item (suc n) most p =
-    elim (is_none_left most) as (λ (b : Bool). length (elim b as (λ _. List ℕ) [ true ↦ [] | false ↦ places_on (after_item g item p) (run_places g item n (one_less most)) ]) ≤ suc n) [
+    elim (is_none_left most) as (λ (b : Bool). length
+    (elim b as (λ _. List ℕ) [
+      | true ↦ []
+      | false ↦ places_on (after_item g item p)
+          (run_places g item n (one_less most))
+    ]) ≤ suc n) [
       | true ↦ omega arith
-      | false ↦ elim (after_item g item p) as (λ (o : Option ℕ). length (places_on o (run_places g item n (one_less most))) ≤ suc n) [
-        | None ↦ omega arith
-        | Some q ↦ let few = run_few g item n (one_less most) q in omega (arith, few)
-      ]
+      | false ↦ elim (after_item g item p) as (λ (o : Option ℕ). length
+          (places_on o (run_places g item n (one_less most))) ≤ suc n) [
+            | None ↦ omega arith
+            | Some q ↦ let few = run_few g item n (one_less most) q in omega (arith, few)
+          ]
     ]
 
-reaches_unbounded : (g : Scene) (item : Item) (m p : ℕ) (ps : List ℕ) → length ps < m → run_reaches g item (Some m) p ps ≡ run_reaches g item None p ps
+reaches_unbounded : (g : Scene) (item : Item) (m p : ℕ) (ps : List ℕ) → length ps < m
+    → run_reaches g item (Some m) p ps ≡ run_reaches g item None p ps
 unfolding run_reaches
 reaches_unbounded g item m p [] less =
     let some_left : (m == 0) ≡ false = grind (arith, nat_tests) in ap (λ b. not b && item_reaches g item p) some_left
-reaches_unbounded g item m p (q ∷ qs) less = ap (λ b. item_reaches g item p || b) (reaches_unbounded g item (m - 1) q qs (omega (arith, less)))
+reaches_unbounded g item m p (q ∷ qs) less = ap (λ b. item_reaches g item p || b)
+    (reaches_unbounded g item (m - 1) q qs (omega (arith, less)))
 
 module _ (g : Scene) (item : Item) (p : ℕ) (short : length g.subject < 4294967295) where
   abbrev reaches_with : Option ℕ → Bool
   reaches_with most = run_reaches g item most p (longest_run g item most p)
 
-  some_reaches : (m : ℕ) (b : Bool) → (m == 4294967295) ≡ b → reaches_with (if b then None else Some m) ≡ reaches_with (Some m)
+  some_reaches : (m : ℕ) (b : Bool) → (m == 4294967295) ≡ b
+      → reaches_with (if b then None else Some m) ≡ reaches_with (Some m)
   some_reaches m true e =
       let most : m ≡ 4294967295 = eqb-true m 4294967295 e in
       let few = run_few g item (length g.subject) (Some m) p in
@@ -119,7 +138,8 @@ module _ (g : Scene) (item : Item) (p : ℕ) (short : length g.subject < 4294967
       ∙ sym (reaches_unbounded g item m p (longest_run g item (Some m) p) (omega (arith, few, short, most)))
   some_reaches m false e = refl
 
-  pub reaches_as : (most : Option ℕ) (m : ℕ) → m ≡ unwrap_or most 4294967295 → reaches_with (maximum m) ≡ reaches_with most
+  pub reaches_as : (most : Option ℕ) (m : ℕ) → m ≡ unwrap_or most 4294967295
+      → reaches_with (maximum m) ≡ reaches_with most
   reaches_as None m e = ap (λ x. reaches_with (maximum x)) e
   reaches_as (Some k) m e = ap (λ x. reaches_with (maximum x)) e ∙ some_reaches k (k == 4294967295) refl
 
@@ -147,35 +167,41 @@ no_width g = by_utf g.options.utf
 empty_text : (g : Scene) (caseless : Bool) (ys : List ℕ) (p : ℕ) → after_text g caseless [] ys p ≡ Some p
 empty_text g caseless ys p =
     let same : p + 0 ≡ p = omega arith in
-    ap (λ b. elim b as (λ _. Option ℕ) [ true ↦ Some (p + width g []) | false ↦ None ]) (le-leb 0 (length ys) (omega arith))
+    ap (λ b. elim b as (λ _. Option ℕ) [ true ↦ Some (p + width g []) | false ↦ None ])
+    (le-leb 0 (length ys) (omega arith))
     ∙ ap (λ n. Some (p + n)) (no_width g)
     ∙ ap Some same
 
 pub empty_ref : (g : Scene) (from to p : ℕ) (caseless : Bool) → to < from → after_ref g from to caseless p ≡ Some p
 empty_ref g from to p caseless less =
     let none : to - from ≡ 0 = omega arith in
-    ap (λ n. after_text g caseless (characters g (take n (drop from g.subject))) (characters g (drop p g.subject)) p) none
+    ap (λ n. after_text g caseless (characters g (take n (drop from g.subject))) (characters g (drop p g.subject)) p)
+    none
     ∙ ap (λ xs. after_text g caseless xs (characters g (drop p g.subject)) p) (no_characters g)
     ∙ empty_text g caseless (characters g (drop p g.subject)) p
 
 pub empty_reaches : (g : Scene) (from to p : ℕ) (caseless : Bool) → to < from → ref_reaches g from to caseless p ≡ false
 empty_reaches g from to p caseless less =
     let none : to - from ≡ 0 = omega arith in
-    ap (λ n. text_reaches g caseless (characters g (take n (drop from g.subject))) (characters g (drop p g.subject))) none
+    ap (λ n. text_reaches g caseless (characters g (take n (drop from g.subject))) (characters g (drop p g.subject)))
+    none
     ∙ ap (λ xs. text_reaches g caseless xs (characters g (drop p g.subject))) (no_characters g)
     ∙ le-ltb (length (characters g (drop p g.subject))) 0 (omega arith)
 
 -- Scenes.
 
-classes_same : (tree : TreeParts) (table : List CharSet) → IsTableOf tree table → table_has table ≡ (λ n c. class_holds tree.options.utf (slice_get tree.classes n) c)
+classes_same : (tree : TreeParts) (table : List CharSet) → IsTableOf tree table
+    → table_has table ≡ (λ n c. class_holds tree.options.utf (slice_get tree.classes n) c)
 classes_same tree table h = fun_ext (λ n. fun_ext (λ c. h.answers n c ∙ class_is tree n c))
 
 -- a view of the tree's options shows what the search is about
-pub scene_same : (tree : TreeParts) (table : List CharSet) (view : View) (answers : Block → ℤ) → IsTableOf tree table → view.options.now ≡ tree.options →
+pub scene_same : (tree : TreeParts) (table : List CharSet) (view : View) (answers : Block → ℤ) → IsTableOf tree table
+    → view.options.now ≡ tree.options →
     text_scene view table ≡ (setting_in tree view.matching.now view.subject.now view.start answers).scene
 scene_same tree table view answers h e =
     ap (λ (has : ℕ → ℕ → Bool). record (text_scene view table) { class_has = has }) (classes_same tree table h)
-    ∙ ap (λ (o : Options). record (setting_in tree view.matching.now view.subject.now view.start answers).scene { options = o; fold = fold_in o.utf }) e
+    ∙ ap (λ (o : Options). record (setting_in tree view.matching.now view.subject.now view.start answers).scene
+    { options = o; fold = fold_in o.utf }) e
 
 -- The children of a node are fewer than its number.
 
@@ -200,18 +226,23 @@ member_below q (x ∷ ks) k a e = elim (cases_Bool (nat_eq k x)) [
   | inr h ↦ member_below q ks k (All-tail (λ x. x < q) x ks a) (rw h at e)
 ]
 
-kids_distinct : (ps : List Placed) (i : ℕ) (d : Placed) → IsDistinct nat_eq (children ps) → i < length ps → IsDistinct nat_eq (kids_of (slice_index_or ps i d).node)
+kids_distinct : (ps : List Placed) (i : ℕ) (d : Placed) → IsDistinct nat_eq (children ps) → i < length ps
+    → IsDistinct nat_eq (kids_of (slice_index_or ps i d).node)
 unfolding children
 kids_distinct [] i d h l = absurd (omega (arith, l))
 kids_distinct (p ∷ ps) zero d h l = distinct_left (kids_of p.node) (children ps) h
-kids_distinct (p ∷ ps) (suc i) d h l = kids_distinct ps i d (distinct_right (kids_of p.node) (children ps) h) (omega (arith, l))
+kids_distinct (p ∷ ps) (suc i) d h l = kids_distinct ps i d (distinct_right (kids_of p.node) (children ps) h)
+    (omega (arith, l))
 
-few_kids : (ps : List Placed) (q : ℕ) (n : Node) → ((other : Placed) → n ≡ (slice_index_or ps q other).node) → q ≤ 4294967295 → All (λ k. k < q) (kids_of n) →
+few_kids : (ps : List Placed) (q : ℕ) (n : Node) → ((other : Placed) → n ≡ (slice_index_or ps q other).node)
+    → q ≤ 4294967295 → All (λ k. k < q) (kids_of n) →
     IsDistinct nat_eq (children ps) → length (kids_of n) ≤ 4294967295
 few_kids ps q n here few below once = elim (cases_lt q (length ps)) [
   | inl l ↦
-      let distinct : IsDistinct nat_eq (kids_of n) = subst (λ m. IsDistinct nat_eq (kids_of m)) (sym (here nowhere)) (kids_distinct ps q nowhere once l) in
-      let count : length (kids_of n) ≤ q = length-le_from_distinct_below (kids_of n) q distinct (λ k e. member_below q (kids_of n) k below e) in
+      let distinct : IsDistinct nat_eq (kids_of n) = subst (λ m. IsDistinct nat_eq (kids_of m)) (sym (here nowhere))
+      (kids_distinct ps q nowhere once l) in
+      let count : length (kids_of n) ≤ q = length-le_from_distinct_below (kids_of n) q distinct
+      (λ k e. member_below q (kids_of n) k below e) in
       omega arith
   | inr ge ↦
       let none : n ≡ node.Empty = here nowhere ∙ ap (λ (p : Placed). p.node) (get_or_past ps q nowhere ge) in
@@ -221,23 +252,32 @@ few_kids ps q n here few below once = elim (cases_lt q (length ps)) [
 
 -- The node of a part.
 
-module _ (t : TreeParts) (table : List CharSet) (matching : MatchOptions) (subject : List ℕ) (start : ℕ) (answers : Block → ℤ)
+module _ (t : TreeParts) (table : List CharSet) (matching : MatchOptions) (subject : List ℕ) (start : ℕ)
+    (answers : Block → ℤ)
     (h : IsBoardSearch t table matching subject) where
-  module _ (q : ℕ) (n : Node) (here : (other : Placed) → n ≡ (slice_index_or t.nodes q other).node) (le : q ≤ t.root) (few : q ≤ 4294967295)
-      (is : nest (trees t.nodes) n ≡ tree_at (trees t.nodes) q) (below : All (λ k. k < q) (kids_of n)) (rules : NodeRules (length t.classes) (length t.verb_names) t.nodes n)
-      (once : IsDistinct nat_eq (children t.nodes)) (grouped : All (λ k. k ≤ greatest (group_numbers t.nodes)) (numbers_of n))
+  module _ (q : ℕ) (n : Node) (here : (other : Placed) → n ≡ (slice_index_or t.nodes q other).node) (le : q ≤ t.root)
+      (few : q ≤ 4294967295)
+      (is : nest (trees t.nodes) n ≡ tree_at (trees t.nodes) q) (below : All (λ k. k < q) (kids_of n))
+      (rules : NodeRules (length t.classes) (length t.verb_names) t.nodes n)
+      (once : IsDistinct nat_eq (children t.nodes))
+      (grouped : All (λ k. k ≤ greatest (group_numbers t.nodes)) (numbers_of n))
       (stand : All (λ k. has_group t.nodes k ≡ true) (named_by n)) (under : is_in q (order t.nodes t.root) ≡ true) where
     pub node_is : IsNode (ground_in t matching subject start answers) q n
     node_is = record {
       is = is;
       below = below;
-      linked = subst (IsLinked (rest t.nodes t.root) (rest t.nodes t.root q)) (sym (here nowhere)) (h.linked q le nowhere);
-      branched = subst (λ m. All (λ k. branch_of t.nodes t.root k ≡ branch_child m (branch_of t.nodes t.root q) k) (kids_of m)) (sym (here nowhere)) (h.branches.each q le nowhere);
-      under = subst (λ m. All (λ k. is_in k (order t.nodes t.root) ≡ true) (kids_of m)) (sym (here nowhere)) (h.under q under nowhere);
-      in_turn = subst (λ m. StandInTurn (rank t.nodes t.root) (past t.nodes t.root) (suc (rank t.nodes t.root q)) (kids_of m) (past t.nodes t.root q)) (sym (here nowhere)) (h.in_turn q under nowhere);
+      linked = subst (IsLinked (rest t.nodes t.root) (rest t.nodes t.root q)) (sym (here nowhere))
+          (h.linked q le nowhere);
+      branched = subst (λ m. All (λ k. branch_of t.nodes t.root k ≡ branch_child m (branch_of t.nodes t.root q) k)
+          (kids_of m)) (sym (here nowhere)) (h.branches.each q le nowhere);
+      under = subst (λ m. All (λ k. is_in k (order t.nodes t.root) ≡ true) (kids_of m)) (sym (here nowhere))
+          (h.under q under nowhere);
+      in_turn = subst (λ m. StandInTurn (rank t.nodes t.root) (past t.nodes t.root) (suc (rank t.nodes t.root q))
+          (kids_of m) (past t.nodes t.root q)) (sym (here nowhere)) (h.in_turn q under nowhere);
       spans = λ k. omega arith;
       classes = rules.classes;
-      names = All-weaker (λ k. k < length t.verb_names) (λ k. k < 4294967295) (λ k l. omega (arith, l, h.names)) (verb_names_of n) rules.verb_names;
+      names = All-weaker (λ k. k < length t.verb_names) (λ k. k < 4294967295) (λ k l. omega (arith, l, h.names))
+          (verb_names_of n) rules.verb_names;
       ordered = rules.ordered;
       tests = rules.test;
       few = few_kids t.nodes q n here few below once;
@@ -247,35 +287,42 @@ module _ (t : TreeParts) (table : List CharSet) (matching : MatchOptions) (subje
 
 -- A group that stands is numbered from 1 on.
 
-member_above : (n : ℕ) (ks rest : List ℕ) → All (λ k. 1 ≤ k) ks → is_in n ks ≡ true → (0 < n) × (n ≤ greatest (ks ++ rest))
+member_above : (n : ℕ) (ks rest : List ℕ) → All (λ k. 1 ≤ k) ks → is_in n ks ≡ true
+    → (0 < n) × (n ≤ greatest (ks ++ rest))
 member_above n [] rest a e = absurd (false≢true e)
 member_above n (k ∷ ks) rest a e = elim (cases_Bool (k == n)) [
   | inl h ↦
       let same = eqb-true k n h in
       let some = All-head (λ k. 1 ≤ k) k ks a in
       (omega (arith, same, some), omega (arith, same))
-  | inr h ↦ let later = member_above n ks rest (All-tail (λ k. 1 ≤ k) k ks a) (rw h at e) in (later.0, omega (arith, later.1))
+  | inr h ↦ let later = member_above n ks rest (All-tail (λ k. 1 ≤ k) k ks a) (rw h at e) in
+      (later.0, omega (arith, later.1))
 ]
 
 greatest_behind : (ks rest : List ℕ) → greatest rest ≤ greatest (ks ++ rest)
 greatest_behind [] rest = omega arith
 greatest_behind (k ∷ ks) rest = let later = greatest_behind ks rest in omega (arith, later)
 
-numbered_from : (class_count name_count : ℕ) (all ps : List Placed) → All (λ p. NodeRules class_count name_count all p.node) ps →
+numbered_from : (class_count name_count : ℕ) (all ps : List Placed)
+    → All (λ p. NodeRules class_count name_count all p.node) ps →
     (n : ℕ) → has_group ps n ≡ true → (0 < n) × (n ≤ greatest (group_numbers ps))
 unfolding group_numbers
 numbered_from class_count name_count all [] a n e = absurd (false≢true e)
 numbered_from class_count name_count all (p ∷ ps) a n e = elim (cases_Bool (is_group n p.node)) [
-  | inl h ↦ member_above n (numbers_of p.node) (group_numbers ps) (All-head (λ p. NodeRules class_count name_count all p.node) p ps a).numbered h
+  | inl h ↦ member_above n (numbers_of p.node) (group_numbers ps)
+      (All-head (λ p. NodeRules class_count name_count all p.node) p ps a).numbered h
   | inr h ↦
-      let later = numbered_from class_count name_count all ps (All-tail (λ p. NodeRules class_count name_count all p.node) p ps a) n (rw h at e) in
+      let later = numbered_from class_count name_count all ps
+      (All-tail (λ p. NodeRules class_count name_count all p.node) p ps a) n (rw h at e) in
       let behind = greatest_behind (numbers_of p.node) (group_numbers ps) in
       (later.0, omega (arith, later.1, behind))
 ]
 
 -- what is known of a finished tree, and what is asked of a search of it
-pub board_search : (t : TreeParts) (table : List CharSet) (matching : MatchOptions) (subject : List ℕ) → TreeRules t → first_fault t ≡ None →
-    IsTableOf t table → IsText t.options subject → greatest (group_numbers t.nodes) ≤ 65535 → matching.match_limit ≤ 4294967295 →
+pub board_search : (t : TreeParts) (table : List CharSet) (matching : MatchOptions) (subject : List ℕ) → TreeRules t
+    → first_fault t ≡ None →
+    IsTableOf t table → IsText t.options subject → greatest (group_numbers t.nodes) ≤ 65535
+    → matching.match_limit ≤ 4294967295 →
     IsBoardSearch t table matching subject
 board_search t table matching subject rules fixed shown searched groups few = record {
   measured = measured_whole t rules fixed;

@@ -1,5 +1,7 @@
 -- The groups of a finished tree are parts that the machine may call.
-use Rattle.std.proofs.Common.{◌≡◌, ◌∙◌, ℕ, zero, suc, ◌<◌, ◌≤◌, ℤ, Bool, true, false, if◌then◌else◌, List, [], ◌∷◌, map, flat_map, Option, Some, None, option_map, All, length, get_or, refl, sym, ap, subst, arith, inl, inr}
+use Rattle.std.proofs.Common.{◌≡◌, ◌∙◌, ℕ, zero, suc, ◌<◌, ◌≤◌, ℤ, Bool, true, false, if◌then◌else◌, List, [], ◌∷◌}
+use Rattle.std.proofs.Common.{map, flat_map, Option, Some, None, option_map, All, length, get_or, refl, sym, ap}
+use Rattle.std.proofs.Common.{subst, arith, inl, inr}
 use Rattle.std.proofs.lemmas.Bool.{cases_Bool, cases_eq, eq-eqb, ne_eqb, false≢true}
 use Rattle.std.proofs.lemmas.List.{get_or_default}
 use Rattle.std.proofs.lemmas.List.Elements.{All-nil, All-cons, All-head, All-tail, All-append}
@@ -37,7 +39,8 @@ abbrev group_if : List Nested → ℕ → ℕ → List ℕ → Bool → Option �
 group_if ts n k ks b = if b then Some k else group_in ts n ks
 
 -- the first group is one of the nodes
-in_group : (P : ℕ → Type 0) (ts : List Nested) (n : ℕ) (ks : List ℕ) (k : ℕ) → All P ks → group_in ts n ks ≡ Some k → P k × (is_capture_of n (tree_at ts k) ≡ true)
+in_group : (P : ℕ → Type 0) (ts : List Nested) (n : ℕ) (ks : List ℕ) (k : ℕ) → All P ks → group_in ts n ks ≡ Some k
+    → P k × (is_capture_of n (tree_at ts k) ≡ true)
 in_group P ts n [] k a e = absurd (none_some k e)
 in_group P ts n (x ∷ ks) k a e =
     elim (cases_Bool (is_capture_of n (tree_at ts x))) [
@@ -47,11 +50,13 @@ in_group P ts n (x ∷ ks) k a e =
       | inr b ↦ in_group P ts n ks k (All-tail P x ks a) (sym (ap (group_if ts n x ks) b) ∙ e)
     ]
 
-first_in : (ts : List Nested) (n : ℕ) (ks : List ℕ) → first_of n (map (tree_at ts) ks) ≡ option_map (tree_at ts) (group_in ts n ks)
+first_in : (ts : List Nested) (n : ℕ) (ks : List ℕ) → first_of n (map (tree_at ts) ks) ≡ option_map (tree_at ts)
+    (group_in ts n ks)
 first_in ts n [] = refl
 first_in ts n (x ∷ ks) =
     elim (is_capture_of n (tree_at ts x))
-    as (λ b. (if b then Some (tree_at ts x) else first_of n (map (tree_at ts) ks)) ≡ option_map (tree_at ts) (if b then Some x else group_in ts n ks)) [
+    as (λ b. (if b then Some (tree_at ts x) else first_of n (map (tree_at ts) ks)) ≡ option_map (tree_at ts)
+    (if b then Some x else group_in ts n ks)) [
       | true ↦ refl
       | false ↦ first_in ts n ks
     ]
@@ -59,7 +64,8 @@ first_in ts n (x ∷ ks) =
 all_flat : (P : ℕ → Type 0) (g : ℕ → List ℕ) (ks : List ℕ) → All (λ k. All P (g k)) ks → All P (flat_map g ks)
 all_flat P g [] a = All-nil P
 all_flat P g (k ∷ ks) a =
-    All-append P (g k) (flat_map g ks) (All-head (λ x. All P (g x)) k ks a) (all_flat P g ks (All-tail (λ x. All P (g x)) k ks a))
+    All-append P (g k) (flat_map g ks) (All-head (λ x. All P (g x)) k ks a)
+    (all_flat P g ks (All-tail (λ x. All P (g x)) k ks a))
 
 -- what ends alone
 capture_alone : (c : Ground) (q n : ℕ) (t : Nested) → is_capture_of n t ≡ true → EndsAlone c q t
@@ -71,7 +77,8 @@ last_alone c q (tree.group (Some m) ts) e = tt
 last_alone c q (tree.group None ts) e = e
 last_alone c q _ e = e
 
-module _ (t : TreeParts) (table : List CharSet) (matching : MatchOptions) (subject : List ℕ) (start : ℕ) (answers : Block → ℤ)
+module _ (t : TreeParts) (table : List CharSet) (matching : MatchOptions) (subject : List ℕ) (start : ℕ)
+    (answers : Block → ℤ)
     (h : IsBoardSearch t table matching subject) (rules : TreeRules t) where
   abbrev board : Ground
   board = ground_in t matching subject start answers
@@ -90,8 +97,10 @@ module _ (t : TreeParts) (table : List CharSet) (matching : MatchOptions) (subje
       let inside : q < length t.nodes = omega (arith, within, rules.root) in
       let p : Placed = get_or t.nodes q nowhere in
       let r = reached_node t.nodes q p rules.nodes.below inside (get_or_default t.nodes q nowhere p inside) in
-      let kids : All (IsPart board) (kids_of p.node) = kid_parts_of board q p.node part r.0 r.1 (h.linked q within nowhere) (rules.nodes.each q nowhere inside).test
-      (h.under q part.under nowhere) (λ k. omega arith) (h.in_turn q part.under nowhere) (h.branches.each q within nowhere) in
+      let kids : All (IsPart board) (kids_of p.node) = kid_parts_of board q p.node part r.0 r.1
+      (h.linked q within nowhere) (rules.nodes.each q nowhere inside).test
+      (h.under q part.under nowhere) (λ k. omega arith) (h.in_turn q part.under nowhere)
+      (h.branches.each q within nowhere) in
       subst (All (IsPart board)) (sym (parts_come_first t rules q within nowhere))
       (All-cons (IsPart board) q (flat_map (order t.nodes) (kids_of p.node)) part
       (all_flat (IsPart board) (order t.nodes) (kids_of p.node)
@@ -123,14 +132,25 @@ module _ (t : TreeParts) (table : List CharSet) (matching : MatchOptions) (subje
       grouped : (o : Option ℕ) → group_in ts n (order t.nodes t.root) ≡ o → IsCalled board n o
       grouped None e = found ∙ ap (option_map (tree_at ts)) e
       grouped (Some k) e =
-          let z = in_group (IsPart board) ts n (order t.nodes t.root) k all_parts e in
-          (found ∙ ap (option_map (tree_at ts)) e, record { inside = z.0; alone = capture_alone board k n (tree_of board k) z.1 })
+          let z = in_group (IsPart board) ts n (order t.nodes t.root) k all_parts e in (
+            found ∙ ap (option_map (tree_at ts)) e,
+            record {
+              inside = z.0;
+              alone = capture_alone board k n (tree_of board k) z.1;
+            },
+          )
 
     pub called_part : IsCalled board n (called_place ts t.root (order t.nodes t.root) n)
     called_part =
         elim (cases_eq n 0) [
           | inl same ↦
-              subst (IsCalled board n) (sym (ap whole_if (eq-eqb n 0 same)))
-              (ap group_is (eq-eqb n 0 same), record { inside = root_part board ok; alone = last_alone board t.root (tree_of board t.root) ok.last })
-          | inr other ↦ subst (IsCalled board n) (sym (ap whole_if (ne_eqb n 0 other))) (grouped other (group_in ts n (order t.nodes t.root)) refl)
+              subst (IsCalled board n) (sym (ap whole_if (eq-eqb n 0 same))) (
+                ap group_is (eq-eqb n 0 same),
+                record {
+                  inside = root_part board ok;
+                  alone = last_alone board t.root (tree_of board t.root) ok.last;
+                },
+              )
+          | inr other ↦ subst (IsCalled board n) (sym (ap whole_if (ne_eqb n 0 other)))
+              (grouped other (group_in ts n (order t.nodes t.root)) refl)
         ]

@@ -1,5 +1,6 @@
 -- No lookbehind of a checked tree has a fault.
-use Rattle.std.proofs.Common.{◌≡◌, ◌∙◌, ℕ, zero, suc, ◌<◌, ◌≤◌, true, false, List, [], ◌∷◌, ◌++◌, map, flat_map, length, All, Option, Some, None, get_or, refl, ap, subst, arith}
+use Rattle.std.proofs.Common.{◌≡◌, ◌∙◌, ℕ, zero, suc, ◌<◌, ◌≤◌, true, false, List, [], ◌∷◌, ◌++◌, map, flat_map}
+use Rattle.std.proofs.Common.{length, All, Option, Some, None, get_or, refl, ap, subst, arith}
 use Rattle.std.specs.Option.{option_or}
 use Rattle.std.proofs.lemmas.List.{get_or_default}
 use Rattle.std.proofs.lemmas.List.Elements.{All-nil, All-cons}
@@ -15,7 +16,8 @@ use Rattle.node_flow.specs.Order.{order}
 use Rattle.node_flow.proofs.TreeLaws.{parts_come_first}
 use Rattle.pat_lengths.specs.declared.backs.LengthFault.{LengthFault}
 use Rattle.pat_lengths.specs.Lengths.{branch_fault}
-use Rattle.pat_lengths.specs.Backs.{behind_branches, fault_from, lengths_at, fault_among, fault_of_node, fault_in, first_fault}
+use Rattle.pat_lengths.specs.Backs.{behind_branches, fault_from, lengths_at, fault_among, fault_of_node, fault_in}
+use Rattle.pat_lengths.specs.Backs.{first_fault}
 use Rattle.frame_state.specs.Behind.{AreFixed, HasFixed, IsMeasured}
 use Rattle.frame_board.specs.Ready.{lengths_in}
 use Rattle.frame_state.proofs.BehindLemmas.{all_joined}
@@ -35,7 +37,8 @@ module _ (t : TreeParts) (rules : TreeRules t) where
   abbrev ts : List Nested
   ts = trees t.nodes
 
-  fixed_among : (at : ℕ) (ks : List ℕ) → fault_among t at ks ≡ None → AreFixed (lengths_in t) (row (map (tree_at ts) ks))
+  fixed_among : (at : ℕ) (ks : List ℕ) → fault_among t at ks ≡ None
+      → AreFixed (lengths_in t) (row (map (tree_at ts) ks))
   fixed_among at [] e = tt
   fixed_among at (k ∷ ks) e =
       let h = both_none (fault_from at (branch_fault (lengths_at t k))) (fault_among t at ks) e in
@@ -54,26 +57,32 @@ module _ (t : TreeParts) (rules : TreeRules t) where
       let r = fault_append xs ys h.1 in
       (ap (λ a. option_or a (fault_in t xs)) h.0 ∙ r.0, r.1)
 
-  fault_flat : (f : ℕ → List ℕ) (ks : List ℕ) → fault_in t (flat_map f ks) ≡ None → All (λ k. fault_in t (f k) ≡ None) ks
+  fault_flat : (f : ℕ → List ℕ) (ks : List ℕ) → fault_in t (flat_map f ks) ≡ None
+      → All (λ k. fault_in t (f k) ≡ None) ks
   fault_flat f [] e = All-nil (λ k. fault_in t (f k) ≡ None)
-  fault_flat f (k ∷ ks) e = let h = fault_append (f k) (flat_map f ks) e in All-cons (λ k. fault_in t (f k) ≡ None) k ks h.0 (fault_flat f ks h.1)
+  fault_flat f (k ∷ ks) e = let h = fault_append (f k) (flat_map f ks) e in
+      All-cons (λ k. fault_in t (f k) ≡ None) k ks h.0 (fault_flat f ks h.1)
 
-  measured_under : (fuel q : ℕ) → q < fuel → q ≤ t.root → fault_in t (order t.nodes q) ≡ None → IsMeasured (lengths_in t) (tree_at ts q)
+  measured_under : (fuel q : ℕ) → q < fuel → q ≤ t.root → fault_in t (order t.nodes q) ≡ None
+      → IsMeasured (lengths_in t) (tree_at ts q)
   measured_under zero q l m e = absurd (omega (arith, l))
   measured_under (suc fuel) q l m e =
       let d : Placed = record { node = node.Empty; at = 0 } in
       let p = get_or t.nodes q d in
       let inside : q < length t.nodes = omega (arith, m, rules.root) in
       let r = reached_node t.nodes q p rules.nodes.below inside (get_or_default t.nodes q d p inside) in
-      let parts : fault_in t (q ∷ flat_map (order t.nodes) (kids_of p.node)) ≡ None = subst (λ xs. fault_in t xs ≡ None) (parts_come_first t rules q m d) e in
+      let parts : fault_in t (q ∷ flat_map (order t.nodes) (kids_of p.node)) ≡ None =
+      subst (λ xs. fault_in t xs ≡ None) (parts_come_first t rules q m d) e in
       let h = both_none (fault_of_node t p) (fault_in t (flat_map (order t.nodes) (kids_of p.node))) parts in
-      let later : All (λ k. fault_in t (order t.nodes k) ≡ None) (kids_of p.node) = fault_flat (order t.nodes) (kids_of p.node) h.1 in
+      let later : All (λ k. fault_in t (order t.nodes k) ≡ None) (kids_of p.node) =
+      fault_flat (order t.nodes) (kids_of p.node) h.1 in
       let kids : All (λ k. IsMeasured (lengths_in t) (tree_at ts k)) (kids_of p.node) = λ i o j.
       let k = get_or (kids_of p.node) i o in
       let below : k < q = r.1 i o j in
       measured_under fuel k (omega (arith, below, l)) (omega (arith, below, m)) (later i o j) in
       subst (IsMeasured (lengths_in t)) r.0
-      (all_joined (HasFixed (lengths_in t)) ts p.node (rules.nodes.each q d inside).test (fixed_node p.node p.at h.0) kids)
+      (all_joined (HasFixed (lengths_in t)) ts p.node (rules.nodes.each q d inside).test (fixed_node p.node p.at h.0)
+      kids)
 
   pub measured_whole : first_fault t ≡ None → IsMeasured (lengths_in t) (tree_of t)
   measured_whole e = measured_under (suc t.root) t.root (omega arith) (omega arith) e

@@ -1,5 +1,6 @@
 -- Verbs' names by their numbers.
-use Rattle.std.proofs.Common.{◌≡◌, ◌≤◌, ◌==◌, ◌&&◌, ◌∙◌, ℕ, zero, suc, Bool, List, [], ◌∷◌, Some, length, slice_get, slice_index_or, bytes_eq, refl, ap, arith}
+use Rattle.std.proofs.Common.{◌≡◌, ◌≤◌, ◌==◌, ◌&&◌, ◌∙◌, ℕ, zero, suc, Bool, List, [], ◌∷◌, Some, length, slice_get}
+use Rattle.std.proofs.Common.{slice_index_or, bytes_eq, refl, ap, arith}
 use Rattle.frame_state.specs.ordered_search.Parts.{same_text}
 
 -- they are the same where their bytes are
@@ -9,7 +10,8 @@ same_bytes [] (y ∷ ys) = refl
 same_bytes (x ∷ xs) [] = refl
 same_bytes (x ∷ xs) (y ∷ ys) = ap (λ (b : Bool). (x == y) && b) (same_bytes xs ys)
 
-pub name_read : (names : List (List ℕ)) (i : ℕ) (name : List ℕ) → slice_get names i ≡ Some name → name ≡ slice_index_or names i []
+pub name_read : (names : List (List ℕ)) (i : ℕ) (name : List ℕ) → slice_get names i ≡ Some name
+    → name ≡ slice_index_or names i []
 name_read [] i name e = cc
 name_read (m ∷ ms) zero name e = cc
 name_read (m ∷ ms) (suc i) name e = name_read ms i name e

@@ -60,13 +60,15 @@ module _ (rest : ℕ → List ℕ) where
   IsLinked-prop after (node.VerbNode v) = hlevel props
   IsLinked-prop after (node.Callout number from to at len) = hlevel props
 
-pub IsBoardSearch-prop : (t : TreeParts) (table : List CharSet) (matching : MatchOptions) (subject : List ℕ) → IsProp (IsBoardSearch t table matching subject)
+pub IsBoardSearch-prop : (t : TreeParts) (table : List CharSet) (matching : MatchOptions) (subject : List ℕ)
+    → IsProp (IsBoardSearch t table matching subject)
 IsBoardSearch-prop t table matching subject = hlevel (props, HasFixed-prop, IsLinked-prop, StandInTurn-prop)
 
 pub IsFlowOf-prop : (nodes : List Placed) (root : ℕ) (flow : List (Option ℕ)) → IsProp (IsFlowOf nodes root flow)
 IsFlowOf-prop nodes root flow = hlevel props
 
-pub AreBranchesOf-prop : (nodes : List Placed) (root : ℕ) (branches : List (Option ℕ)) → IsProp (AreBranchesOf nodes root branches)
+pub AreBranchesOf-prop : (nodes : List Placed) (root : ℕ) (branches : List (Option ℕ))
+    → IsProp (AreBranchesOf nodes root branches)
 AreBranchesOf-prop nodes root branches = hlevel props
 
 pub AreRanks-prop : (nodes : List Placed) (root : ℕ) (ranks : List ℕ) → IsProp (AreRanks nodes root ranks)

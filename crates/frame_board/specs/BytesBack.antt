@@ -1,5 +1,6 @@
 -- Places before another, outside UTF.
-use Rattle.std.proofs.Common.{◌≡◌, ◌∙◌, ℕ, zero, suc, ◌-◌, ◌<◌, ◌≤◌, false, [], drop, Option, Some, None, refl, sym, ap, inl, inr, arith}
+use Rattle.std.proofs.Common.{◌≡◌, ◌∙◌, ℕ, zero, suc, ◌-◌, ◌<◌, ◌≤◌, false, [], drop, Option, Some, None, refl, sym}
+use Rattle.std.proofs.Common.{ap, inl, inr, arith}
 use Rattle.std.specs.Prelude.{SomeIff}
 use Rattle.std.proofs.lemmas.Bool.{cases_lt}
 use Rattle.match_items.specs.Scene.{Scene}
@@ -29,7 +30,8 @@ module _ (g : Scene) (bytes : g.options.utf ≡ false) where
   unfolding places_back
   place_back_none zero p lt = absurd (omega (arith, lt))
   place_back_none (suc n) zero lt = drop_one n 0
-  place_back_none (suc n) (suc p) lt = ap (place_back g n) (place_before-after g p bytes) ∙ place_back_none n p (omega (arith, lt))
+  place_back_none (suc n) (suc p) lt = ap (place_back g n) (place_before-after g p bytes)
+      ∙ place_back_none n p (omega (arith, lt))
 
   pub place_back_within : (n p q : ℕ) → place_back g n p ≡ Some q → q ≤ p
   unfolding places_back
@@ -39,9 +41,12 @@ module _ (g : Scene) (bytes : g.options.utf ≡ false) where
       some_same a b e = cc
   place_back_within (suc n) zero q e = absurd (none_some q (sym (drop_one n 0) ∙ e))
   place_back_within (suc n) (suc p) q e =
-      let le = place_back_within n p q (sym (ap (place_back g n) (place_before-after g p bytes)) ∙ e) in omega (arith, le)
+      let le = place_back_within n p q (sym (ap (place_back g n) (place_before-after g p bytes)) ∙ e) in
+      omega (arith, le)
 
   -- what is told by numbers
   pub told_back : (n p m : ℕ) → m ≡ n → (o : Option ℕ) → SomeIff o (m ≤ p) (p - m) → o ≡ place_back g n p
-  told_back n p m e None h = sym (place_back_none n p (elim (cases_lt p n) [ inl lt ↦ lt | inr ge ↦ absurd (h (omega (arith, e, ge))) ]))
-  told_back n p m e (Some q) h = let le : n ≤ p = omega (arith, e, h.0) in sym (place_back_bytes n p le ∙ ap (λ k. Some (p - k)) (sym e) ∙ ap Some (sym h.1))
+  told_back n p m e None h =
+      sym (place_back_none n p (elim (cases_lt p n) [ inl lt ↦ lt | inr ge ↦ absurd (h (omega (arith, e, ge))) ]))
+  told_back n p m e (Some q) h = let le : n ≤ p = omega (arith, e, h.0) in
+      sym (place_back_bytes n p le ∙ ap (λ k. Some (p - k)) (sym e) ∙ ap Some (sym h.1))

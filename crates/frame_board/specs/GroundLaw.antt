@@ -23,7 +23,8 @@ stands_if : (c : Ground) (o : Option ℕ) → ((q : ℕ) → o ≡ Some q → c.
 stands_if c None h = tt
 stands_if c (Some q) h = h q refl
 
-module _ (t : TreeParts) (table : List CharSet) (matching : MatchOptions) (subject : List ℕ) (start : ℕ) (answers : Block → ℤ)
+module _ (t : TreeParts) (table : List CharSet) (matching : MatchOptions) (subject : List ℕ) (start : ℕ)
+    (answers : Block → ℤ)
     (h : IsBoardSearch t table matching subject) where
   abbrev board : Ground
   board = ground_in t matching subject start answers
@@ -41,12 +42,16 @@ module _ (t : TreeParts) (table : List CharSet) (matching : MatchOptions) (subje
       (p < q) × (board.stands q ≡ true) × (place_before board.setting.scene q ≡ p)
   forward item p q here e = let f = along.forward item p q (at p here) e in (f.0, standing q f.1, f.2)
 
-  backward : (p : ℕ) → board.stands p ≡ true → 0 < p → (place_before board.setting.scene p < p) × (board.stands (place_before board.setting.scene p) ≡ true)
-  backward p here some = let b = along.backward p (at p here) some in (b.0, standing (place_before board.setting.scene p) b.1)
+  backward : (p : ℕ) → board.stands p ≡ true → 0 < p → (place_before board.setting.scene p < p)
+      × (board.stands (place_before board.setting.scene p) ≡ true)
+  backward p here some = let b = along.backward p (at p here) some in
+      (b.0, standing (place_before board.setting.scene p) b.1)
 
   steps_back : (n p : ℕ) → board.stands p ≡ true → StandsIf board (place_back board.setting.scene n p)
   steps_back n p here =
-      stands_if board (place_back board.setting.scene n p) (λ q e. back_stands board.setting.scene (λ r. board.stands r ≡ true) (λ r there some. (backward r there some).1) n p q here e)
+      stands_if board (place_back board.setting.scene n p)
+      (λ q e. back_stands board.setting.scene (λ r. board.stands r ≡ true)
+      (λ r there some. (backward r there some).1) n p q here e)
 
   pub ground_is : IsGround board
   ground_is = record {
@@ -62,9 +67,11 @@ module _ (t : TreeParts) (table : List CharSet) (matching : MatchOptions) (subje
     short = h.searched.short;
     within = λ p here. (at p here).within;
     forward = forward;
-    breaks = λ p here. stands_if board (after_break board.setting.scene p) (λ q e. standing q (along.breaks p q (at p here) e));
+    breaks = λ p here. stands_if board (after_break board.setting.scene p)
+        (λ q e. standing q (along.breaks p q (at p here) e));
     refers = λ from to p caseless a b here.
-        stands_if board (after_ref board.setting.scene from to caseless p) (λ q e. standing q (along.refers from to p q caseless (at p here) e));
+        stands_if board (after_ref board.setting.scene from to caseless p)
+        (λ q e. standing q (along.refers from to p q caseless (at p here) e));
     steps_back = steps_back;
     backward = backward;
   }

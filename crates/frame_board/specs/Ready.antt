@@ -62,7 +62,8 @@ pub record IsKnown (tree : TreeParts) (facts : Facts) : Type 0 where
 -- What a search of a finished tree is about: folding is that of Unicode in UTF and else that of ASCII, and where word
 -- characters are asked for by Unicode's properties, they are these. The blocks of callouts are answered so.
 abbrev pub setting_in : TreeParts → MatchOptions → List ℕ → ℕ → (Block → ℤ) → Setting
-setting_in tree matching subject start answers = setting_of (pattern_of tree) matching subject start (fold_in tree.options.utf) (word true) (λ b. answers (shown_as b))
+setting_in tree matching subject start answers = setting_of (pattern_of tree) matching subject start
+    (fold_in tree.options.utf) (word true) (λ b. answers (shown_as b))
 
 -- the same of a view
 abbrev pub setting_for : TreeParts → View → (Block → ℤ) → Setting
@@ -74,14 +75,16 @@ lengths_in tree t = branch_lengths tree.options.match_unset_backref (tree_of tre
 
 -- The search is one that runs here: the branches of the tree's lookbehinds have one length each, and
 -- the subject can be looked at, in UTF as UTF-8.
-pub record IsBoardSearch (tree : TreeParts) (table : List CharSet) (matching : MatchOptions) (subject : List ℕ) : Type 0 where
+pub record IsBoardSearch (tree : TreeParts) (table : List CharSet) (matching : MatchOptions) (subject : List ℕ) : Type
+    0 where
   pub measured : IsMeasured (lengths_in tree) (tree_of tree)
   pub shown : IsTableOf tree table
   pub searched : IsText tree.options subject
   pub groups : greatest (group_numbers tree.nodes) ≤ 65535
   pub few : matching.match_limit ≤ 4294967295
   pub names : length tree.verb_names ≤ 4294967295
-  -- nothing follows the whole, a part that follows is followed by the others, and children are followed as their parent says
+  -- nothing follows the whole, a part that follows is followed by the others, and children are followed as their parent
+  -- says
   pub last : rest tree.nodes tree.root tree.root ≡ []
   pub chained : (q p : ℕ) (ps : List ℕ) → rest tree.nodes tree.root q ≡ p ∷ ps → rest tree.nodes tree.root p ≡ ps
   pub linked : (q : ℕ) → q ≤ tree.root → (other : Placed) →

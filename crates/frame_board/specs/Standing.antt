@@ -1,5 +1,6 @@
 -- The places of a subject that stand: at each a character begins, or the subject ends.
-use Rattle.std.proofs.Common.{◌≡◌, ◌∙◌, ℕ, zero, suc, ◌<◌, ◌≤◌, Bool, true, ◌&&◌, not, List, [], ◌∷◌, drop, length, nat_le, nat_lt, Some, None, refl, sym, ap, subst, inl, inr, arith}
+use Rattle.std.proofs.Common.{◌≡◌, ◌∙◌, ℕ, zero, suc, ◌<◌, ◌≤◌, Bool, true, ◌&&◌, not, List, [], ◌∷◌, drop, length}
+use Rattle.std.proofs.Common.{nat_le, nat_lt, Some, None, refl, sym, ap, subst, inl, inr, arith}
 use Rattle.std.specs.Prelude.{slice_get, slice_index}
 use Rattle.std.proofs.lemmas.Bool.{cases_Bool, cases_lt, and_parts, le-leb, leb-true}
 use Rattle.std.proofs.lemmas.Bool.Decides.{nat_tests}
@@ -29,7 +30,8 @@ module _ (options : Options) (subject : List ℕ) (p : ℕ) where
         between = λ utf. (within, λ inside high. outside utf parts.1 high);
       }
     where
-      outside : options.utf ≡ true → not (options.utf && is_inside (slice_index subject p)) ≡ true → 128 ≤ slice_index subject p → 192 ≤ slice_index subject p
+      outside : options.utf ≡ true → not (options.utf && is_inside (slice_index subject p)) ≡ true
+          → 128 ≤ slice_index subject p → 192 ≤ slice_index subject p
       outside utf e high = let out = rw utf at e in grind (arith, nat_tests)
 
   pub standing_of : IsTextPlace options subject p → stands_in options.utf subject p ≡ true
@@ -40,7 +42,8 @@ module _ (options : Options) (subject : List ℕ) (p : ℕ) where
         | inr bytes ↦ ap (λ b. not (b && is_inside (slice_index subject p))) bytes
       ])
     where
-      outside : (p < length subject → 128 ≤ slice_index subject p → 192 ≤ slice_index subject p) → not (is_inside (slice_index subject p)) ≡ true
+      outside : (p < length subject → 128 ≤ slice_index subject p → 192 ≤ slice_index subject p)
+          → not (is_inside (slice_index subject p)) ≡ true
       outside starts = elim (cases_lt p (length subject)) [
         | inl inside ↦ let start = starts inside in grind (arith, nat_tests)
         | inr past ↦ let none : slice_index subject p ≡ 0 = get_or_past subject p 0 past in grind (arith, nat_tests)
@@ -64,7 +67,8 @@ module _ (g : Scene) (Stands : ℕ → Type 0) (backward : (p : ℕ) → Stands 
   unfolding places_back
   back_stands zero p q here e = subst Stands (some_same p q e) here
   back_stands (suc n) zero q here e = absurd (none_some q (sym (drop_one n 0) ∙ e))
-  back_stands (suc n) (suc p) q here e = back_stands n (place_before g (suc p)) q (backward (suc p) here (omega arith)) e
+  back_stands (suc n) (suc p) q here e = back_stands n (place_before g (suc p)) q
+      (backward (suc p) here (omega arith)) e
 
 first_dropped : (xs : List ℕ) (n : ℕ) → slice_get xs n ≡ first_of (drop n xs)
 first_dropped [] zero = refl
@@ -83,7 +87,8 @@ module _ (g h : Scene) (options : g.options ≡ h.options) (subject : g.subject 
   unfolding places_back
   places_same zero p = refl
   places_same (suc n) zero = refl
-  places_same (suc n) (suc p) = ap (λ q. suc p ∷ places_back g n q) (before (suc p)) ∙ ap (λ (ps : List ℕ). suc p ∷ ps) (places_same n (place_before h (suc p)))
+  places_same (suc n) (suc p) = ap (λ q. suc p ∷ places_back g n q) (before (suc p))
+      ∙ ap (λ (ps : List ℕ). suc p ∷ ps) (places_same n (place_before h (suc p)))
 
   pub back_same : (n p : ℕ) → slice_get (places_back g n p) n ≡ place_back h n p
   back_same n p = ap (λ (ps : List ℕ). slice_get ps n) (places_same n p) ∙ first_dropped (places_back h n p) n

@@ -9,7 +9,8 @@ ghost use Rattle.pat_lengths.specs.Backs.{AreBacks};
 ghost use Rattle.pat_lengths.specs.Places.{ArePlaces};
 ghost use Rattle.frame_board.specs.Ready.{IsBoardSearch, IsKnown, setting_in};
 ghost use Rattle.frame_board.specs.Standing.{stands_in};
-ghost use Rattle.frame_board.specs.BoardProps.{IsBoardSearch-prop, IsFlowOf-prop, AreBranchesOf-prop, AreRanks-prop, AreBacks-prop, ArePlaces-prop, IsKnown-prop};
+ghost use Rattle.frame_board.specs.BoardProps.{IsBoardSearch-prop, IsFlowOf-prop, AreBranchesOf-prop, AreRanks-prop};
+ghost use Rattle.frame_board.specs.BoardProps.{AreBacks-prop, ArePlaces-prop, IsKnown-prop};
 
 use crate::counted::{longest, place_of, taken, wide};
 use crate::reaches::{break_reaches, item_reaches, ref_reaches};
@@ -77,7 +78,8 @@ impl<C: Callouts> Searchable for Board<'_, C> {
 
     ghost searched = { λ b. ground_in b.tree.now b.matching.now b.subject.now b.start (C.answers b.calls.value) };
 
-    ghost sound = { λ b. ground_is b.tree.now b.classes.now b.matching.now b.subject.now b.start (C.answers b.calls.value) b.runs };
+    ghost sound = { λ b. ground_is b.tree.now b.classes.now b.matching.now b.subject.now b.start
+        (C.answers b.calls.value) b.runs };
 
     fn root(&self) -> u32 {
         self.tree.root()

@@ -18,7 +18,8 @@ use Rattle.frame_state.specs.Validity.{IsLater, IsRunning}
 pub record IsChoice (c : Ground) (q : ℕ) (holds : Bool) (next : Next) : Type 0 where
   pub goes : (d : ℕ) (k : Outside) (s : State) (f : Moves) → ((p : ℕ) → c.branch p ≡ c.branch q → k.hand p ≡ k.hand q) →
       focus c next d k s f ≡ chosen_from c (tree_of c q) holds d s (past c d k q) f (k.hand q)
-  pub runs : (spot : Spot) (stack : List Entry) → IsLater c spot.frame q stack → IsRunning c spot stack End → IsRunning c spot stack next
+  pub runs : (spot : Spot) (stack : List Entry) → IsLater c spot.frame q stack → IsRunning c spot stack End
+      → IsRunning c spot stack next
   -- the branches around the parts that it goes on with began by the condition
   pub begun : All (BeginsBy c q) (parts_of c next)
 

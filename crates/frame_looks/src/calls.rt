@@ -5,7 +5,8 @@ ghost use Rattle.frame_store.specs.Stack.{room};
 ghost use Rattle.frame_state.specs.Room.{IsShort};
 ghost use Rattle.frame_store.specs.Entry.{CallOpen, entries, entry_of};
 ghost use Rattle.ordered_search.specs.Parts.{contains, is_active, is_called, is_called_of};
-ghost use Rattle.frame_state.specs.Calls.{AreNested, AreWithin, IsCalling, IsLatest, IsCallee, GoesOn, call_entry, call_spot, called_ahead, calls_at};
+ghost use Rattle.frame_state.specs.Calls.{AreNested, AreWithin, IsCalling, IsLatest, IsCallee, GoesOn, call_entry};
+ghost use Rattle.frame_state.specs.Calls.{call_spot, called_ahead, calls_at};
 ghost use Rattle.frame_state.specs.Steps.{over, StepsOn, StopsThere, StopsBy, KeepsPeak, IsShortAt};
 ghost use Rattle.frame_state.specs.Ground.{IsNode};
 ghost use Rattle.frame_state.specs.Machine.{kept_at};
@@ -36,8 +37,8 @@ fn latest_call(store: &Store, frame: u32) -> Option<Record>
     None
 }
 
-/// Whether a call of a group that began at a place is active in the frame at a height. A call's record tells how far on the
-/// calls around it began, so that the outer ones are mostly not looked at.
+/// Whether a call of a group that began at a place is active in the frame at a height. A call's record tells how far on
+/// the calls around it began, so that the outer ones are mostly not looked at.
 fn is_active(store: &Store, frame: u32, group: u16, place: u64) -> bool
     requires nested { AreNested (entries store.now.records) }
     requires within { frame ≤ length store.now.records }

@@ -11,5 +11,6 @@ module _ (c : Ground) (q number from to at len : ℕ) (i : IsNode c q (node.Call
   pub callout_is : IsCallout (tree_of c q)
   callout_is = subst IsCallout i.is tt
 
-  pub callout_shown : (spot : Spot) (block : Block) → IsShown (tree_of c q) spot block → block ≡ shown_as (block_at (callout_at number from to at len) spot)
+  pub callout_shown : (spot : Spot) (block : Block) → IsShown (tree_of c q) spot block
+      → block ≡ shown_as (block_at (callout_at number from to at len) spot)
   callout_shown spot block h = subst (λ t. IsShown t spot block) (sym i.is) h

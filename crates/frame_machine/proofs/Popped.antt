@@ -14,11 +14,17 @@ use Rattle.frame_machine.specs.Back.{IsNewest, LeadsBack}
 
 module _ (c : Ground) (spot : Spot) (old older : List Record) (r : Record) (caps : Captures) where
   pub is_newest : IsValid c (conf Back spot (entries old) caps) → old ≡ r ∷ older → IsNewest c spot r
-  is_newest v popped = record { older = older; caps = caps; valid = subst (λ l. IsValid c (conf Back spot (entries l) caps)) popped v }
+  is_newest v popped = record {
+    older = older;
+    caps = caps;
+    valid = subst (λ l. IsValid c (conf Back spot (entries l) caps)) popped v;
+  }
 
-  pub popped_leads : (now : Captures) (next : Next) (new : Spot) → IsValid c (conf Back spot (entries old) caps) → old ≡ r ∷ older → now ≡ taken_back (entry_of r) caps →
+  pub popped_leads : (now : Captures) (next : Next) (new : Spot) → IsValid c (conf Back spot (entries old) caps)
+      → old ≡ r ∷ older → now ≡ taken_back (entry_of r) caps →
       LeadsBack c r spot next new → Advances c (conf Back spot (entries old) caps) (conf next new (entries older) now)
   popped_leads now next new v popped back leads =
       subst (λ x. Advances c (conf Back spot (entries old) caps) (conf next new (entries older) x)) (sym back)
-      (subst (λ l. Advances c (conf Back spot (entries l) caps) (conf next new (entries older) (taken_back (entry_of r) caps))) (sym popped)
+      (subst (λ l. Advances c (conf Back spot (entries l) caps)
+      (conf next new (entries older) (taken_back (entry_of r) caps))) (sym popped)
       (leads older caps (subst (λ l. IsValid c (conf Back spot (entries l) caps)) popped v)))

@@ -22,26 +22,55 @@ use Rattle.search_paths.proofs.Before.{tread_whole}
 
 module _ (c : Ground) (ok : IsGround c) (place : ℕ) where
   abbrev start_spot : Spot
-  start_spot = record { place = place; keep = place; early = place; units = 0; mark = 0; passed = 0; frame = 0; left = match_limit c.setting; last = none_met }
+  start_spot = record {
+    place = place;
+    keep = place;
+    early = place;
+    units = 0;
+    mark = 0;
+    passed = 0;
+    frame = 0;
+    left = match_limit c.setting;
+    last = none_met;
+  }
 
   abbrev start_caps : Captures
   start_caps = replicate c.setting.groups None
 
-  pub starts : tread c.setting (match_limit c.setting) (ahead c (conf (Enter c.root) start_spot [] start_caps)) ≡ place_answer c.setting place
+  pub starts : tread c.setting (match_limit c.setting) (ahead c (conf (Enter c.root) start_spot [] start_caps))
+      ≡ place_answer c.setting place
   unfolding around fail heard
   starts =
       let d : ℕ = match_limit c.setting + 1 in
       let K : Outside = outside c [] start_caps 0 in
-      let follow : after c d K (c.rest c.root) ≡ at_end = ap (after c d K) ok.last ∙ after_nil c d K ∙ cont_whole c [] start_caps in
-      ap (λ (z : Follow). tread c.setting (match_limit c.setting) (paths c.setting d (tree_of c c.root) (first_state c.setting.groups place) z exhaust (K.hand c.root))) follow
-      ∙ ap (λ t. tread c.setting (match_limit c.setting) (paths c.setting d t (first_state c.setting.groups place) at_end exhaust (K.hand c.root))) ok.whole
-      ∙ ap (λ (h : Handler). tread c.setting (match_limit c.setting) (paths c.setting d c.setting.whole (first_state c.setting.groups place) at_end exhaust h)) (hand_frame c [] start_caps 0 c.root ok.whole_alone ∙ caught_whole c [] start_caps)
+      let follow : after c d K (c.rest c.root) ≡ at_end = ap (after c d K) ok.last ∙ after_nil c d K
+      ∙ cont_whole c [] start_caps in
+      ap (λ (z : Follow). tread c.setting (match_limit c.setting)
+      (paths c.setting d (tree_of c c.root) (first_state c.setting.groups place) z exhaust (K.hand c.root)))
+      follow
+      ∙ ap (λ t. tread c.setting (match_limit c.setting)
+      (paths c.setting d t (first_state c.setting.groups place) at_end exhaust (K.hand c.root))) ok.whole
+      ∙ ap (λ (h : Handler). tread c.setting (match_limit c.setting)
+      (paths c.setting d c.setting.whole (first_state c.setting.groups place) at_end exhaust h))
+      (hand_frame c [] start_caps 0 c.root ok.whole_alone ∙ caught_whole c [] start_caps)
       ∙ tread_whole c.setting place
 
   pub starts_valid : c.stands place ≡ true → IsValid c (conf (Enter c.root) start_spot [] start_caps)
   unfolding around
   starts_valid here = record {
-    running = (root_part c ok, record { inside = omega arith; deep = omega arith; counted = omega arith; few = omega arith; here = here; marked = omega arith; contained = tt }, tt);
+    running = (
+      root_part c ok,
+      record {
+        inside = omega arith;
+        deep = omega arith;
+        counted = omega arith;
+        few = omega arith;
+        here = here;
+        marked = omega arith;
+        contained = tt;
+      },
+      tt,
+    );
     records = tt;
     spans = All-replicate (SpanStands c) c.setting.groups None tt;
     slots = length-replicate c.setting.groups None;

@@ -1,7 +1,8 @@
 -- Back to a record.
 use Rattle.std.specs.Prelude.{◌≢◌, ℕ, List, ◌∷◌}
 use Rattle.frame_store.specs.declared.records.Record.{Record}
-use Rattle.frame_store.specs.declared.kinds.TheConstants.{KIND_LATER_BRANCH, KIND_TURN_OR_EXIT, KIND_LATER_TURN, KIND_FEWER_ITEMS, KIND_MORE_ITEMS, KIND_ATOMIC_LEFT}
+use Rattle.frame_store.specs.declared.kinds.TheConstants.{KIND_LATER_BRANCH, KIND_TURN_OR_EXIT, KIND_LATER_TURN}
+use Rattle.frame_store.specs.declared.kinds.TheConstants.{KIND_FEWER_ITEMS, KIND_MORE_ITEMS, KIND_ATOMIC_LEFT}
 use Rattle.frame_store.specs.Captures.{Captures}
 use Rattle.frame_store.specs.Entry.{entries, entry_of}
 use Rattle.frame_store.specs.Undo.{taken_back}
@@ -29,4 +30,5 @@ module _ (c : Ground) where
   abbrev pub LeadsBack : Record → Spot → Next → Spot → Type 0
   LeadsBack r old next new =
       (older : List Record) (caps : Captures) → IsValid c (conf Back old (entries (r ∷ older)) caps) →
-      Advances c (conf Back old (entries (r ∷ older)) caps) (conf next new (entries older) (taken_back (entry_of r) caps))
+      Advances c (conf Back old (entries (r ∷ older)) caps)
+      (conf next new (entries older) (taken_back (entry_of r) caps))

@@ -1,4 +1,5 @@
-//! The ordered search of a pattern at one start place, on one stack of records (pcre2matching, "The standard matching algorithm").
+//! The ordered search of a pattern at one start place, on one stack of records (pcre2matching, "The standard matching
+//! algorithm").
 #![tactic(auto)]
 
 mod accepts;

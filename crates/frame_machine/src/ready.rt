@@ -15,15 +15,15 @@ use match_items::View;
 use pcre_io::{Callouts, NoCallouts};
 use std::snapshot::Snapshot;
 
-/// Searches a finished tree at one place, and leaves the captures of a match in the workspace (pcre2matching, "The standard
-/// matching algorithm"). Any workspace serves, new or used.
+/// Searches a finished tree at one place, and leaves the captures of a match in the workspace (pcre2matching, "The
+/// standard matching algorithm"). Any workspace serves, new or used.
 ///
 /// Needs the table and the facts of the tree, and a view with the tree's options; a subject of fewer than 4,294,967,295
-/// bytes, which in UTF is UTF-8; a start that is at most the place, and both in the subject, in UTF where characters begin;
-/// and a tree the branches of whose lookbehinds have one length each, as its facts say.
+/// bytes, which in UTF is UTF-8; a start that is at most the place, and both in the subject, in UTF where characters
+/// begin; and a tree the branches of whose lookbehinds have one length each, as its facts say.
 ///
-/// At each callout it calls `calls`, and follows the answer. Where want of memory is answered, the blocks that were shown
-/// last are not told.
+/// At each callout it calls `calls`, and follows the answer. Where want of memory is answered, the blocks that were
+/// shown last are not told.
 pub fn run_at<C: Callouts>(
     ready: &Ready<'_>,
     view: &View<'_>,
@@ -66,8 +66,8 @@ pub fn run_at<C: Callouts>(
     search_at(&board, place as u64, scratch, calls)
 }
 
-/// The same in room that was made before, so that it takes no memory: neither want of memory is answered nor a callout's
-/// answer. Callouts are passed over.
+/// The same in room that was made before, so that it takes no memory: neither want of memory is answered nor a
+/// callout's answer. Callouts are passed over.
 pub fn run_at_reserved(
     ready: &Ready<'_>,
     view: &View<'_>,

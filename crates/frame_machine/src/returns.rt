@@ -1,5 +1,6 @@
 //! Calls of groups, as they end: the captures are those of the call's begin again (pcre2pattern, "Recursive patterns").
-ghost use Rattle.std.specs.Prelude.{◌≡◌, ◌≤◌, ◌<◌, ◌+◌, ◌∷◌, max, length, All, true, false, Option, IfErr, OnOk, Some, reverse, slice_get};
+ghost use Rattle.std.specs.Prelude.{◌≡◌, ◌≤◌, ◌<◌, ◌+◌, ◌∷◌, max, length, All, true, false, Option, IfErr, OnOk};
+ghost use Rattle.std.specs.Prelude.{Some, reverse, slice_get};
 ghost use Rattle.frame_store.specs.Stack.{room};
 ghost use Rattle.frame_state.specs.Room.{IsShort};
 ghost use Rattle.frame_store.specs.Captures.{HasGroup, capture, with_capture};

@@ -23,7 +23,8 @@ use frame_store::{Span, Store};
 use frame_verbs::catches::{act, leave};
 use pcre_io::Callouts;
 
-/// One turn of the machine's loop, from what is next to what is next then. `bank` serves where registers are given back.
+/// One turn of the machine's loop, from what is next to what is next then. `bank` serves where registers are given
+/// back.
 // What is next is written in place: copied out of an answer it costs a quarter of a search.
 #[inline(always)]
 fn turn<S: Searchable, C: Callouts>(

@@ -1,5 +1,6 @@
 //! The workspace of a search.
-ghost use Rattle.std.specs.Prelude.{◌≡◌, ◌≤◌, ◌<◌, true, max, length, replicate, None, [], IsOk, OnOk, OnErr, vec_capacity};
+ghost use Rattle.std.specs.Prelude.{◌≡◌, ◌≤◌, ◌<◌, true, max, length, replicate, None, [], IsOk, OnOk, OnErr};
+ghost use Rattle.std.specs.Prelude.{vec_capacity};
 ghost use Rattle.frame_store.specs.Captures.{capture_if_any};
 ghost use Rattle.pcre_io.specs.declared.callouts.Block.{Block};
 ghost use Rattle.frame_state.specs.Answer.{IsAnswer, IsMark, IsSeen, SkipStands};
@@ -66,8 +67,8 @@ impl Scratch {
         }
     }
 
-    /// Makes room for searches of patterns with so many groups, under so high a frame limit. Want of memory alone refuses
-    /// it, and leaves the room that was made before.
+    /// Makes room for searches of patterns with so many groups, under so high a frame limit. Want of memory alone
+    /// refuses it, and leaves the room that was made before.
     pub fn reserve(&mut self, groups: u32, frames: u32) -> Result<(), Memory>
         requires { groups ≤ 65535 }
         ensures groups { OnOk result (self.new.groups ≡ max self.old.groups groups) }
@@ -107,8 +108,8 @@ impl Scratch {
         self.frames
     }
 
-    /// The text that a group captured in the match that the last search gave. None where there is no such group: groups are
-    /// numbered from 1.
+    /// The text that a group captured in the match that the last search gave. None where there is no such group: groups
+    /// are numbered from 1.
     pub fn span(&self, group: u32) -> Option<Span>
         ensures { result ≡ capture_if_any self.now.spans group }
     {
@@ -145,8 +146,8 @@ impl Scratch {
     }
 }
 
-/// Makes a workspace ready for a search: no records, and so many unset registers, with a bank for as many. Want of memory
-/// alone refuses it, where no room was made for them, for `reserved` groups.
+/// Makes a workspace ready for a search: no records, and so many unset registers, with a bank for as many. Want of
+/// memory alone refuses it, where no room was made for them, for `reserved` groups.
 fn prepare(
     groups: u32,
     reserved: u32,

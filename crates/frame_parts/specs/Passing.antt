@@ -79,17 +79,21 @@ module _ (c : Ground) where
   -- The same, after so many units of the part's own.
   pub record Needs (q : ℕ) (need : Need) (units : ℕ) : Type 0 where
     pub class : All (λ n. n < c.class_count) (needed_classes need)
-    pub fails : (spot : Spot) (stack : List Entry) (caps : Captures) → IsValid c (conf (Enter q) spot stack caps) → spot.units + units ≤ c.setting.matching.frame_limit →
+    pub fails : (spot : Spot) (stack : List Entry) (caps : Captures) → IsValid c (conf (Enter q) spot stack caps)
+        → spot.units + units ≤ c.setting.matching.frame_limit →
         IsMissing need spot.place → FallsBack (conf (Enter q) spot stack caps)
 
   -- The part fails at the place.
   pub record FailsAt (q place : ℕ) : Type 0 where
-    pub fails : (spot : Spot) (stack : List Entry) (caps : Captures) → spot.place ≡ place → IsValid c (conf (Enter q) spot stack caps) →
+    pub fails : (spot : Spot) (stack : List Entry) (caps : Captures) → spot.place ≡ place
+        → IsValid c (conf (Enter q) spot stack caps) →
         Advances c (conf (Enter q) spot stack caps) (conf Back spot stack caps)
 
   -- What comes next, in the frame at a height, needs this first, after so many further units.
-  pub record IsFollower (next : Next) (height : ℕ) (records : List Record) (caps : Captures) (need : Need) (units : ℕ) : Type 0 where
+  pub record IsFollower (next : Next) (height : ℕ) (records : List Record) (caps : Captures) (need : Need)
+      (units : ℕ) : Type 0 where
     pub class : All (λ n. n < c.class_count) (needed_classes need)
-    pub fails : (newest : Record) (spot : Spot) → spot.frame ≡ height → IsValid c (conf next spot (entries (newest ∷ records)) caps) →
+    pub fails : (newest : Record) (spot : Spot) → spot.frame ≡ height
+        → IsValid c (conf next spot (entries (newest ∷ records)) caps) →
         spot.units + units ≤ c.setting.matching.frame_limit → IsMissing need spot.place →
         FallsBack (conf next spot (entries (newest ∷ records)) caps)

@@ -11,7 +11,8 @@ ghost use Rattle.frame_state.specs.Ground.{next_of, tree_of, IsPart};
 ghost use Rattle.frame_state.specs.Machine.{towards};
 ghost use Rattle.frame_state.specs.Validity.{IsMany, IsValid};
 ghost use Rattle.frame_state.specs.Stops.{IsFurther};
-ghost use Rattle.frame_parts.specs.Passing.{HasNumber, needed_classes, is_of_end, AreFar, PassesFar, IsMissing, BeginsWith, Needs, FailsAt, IsFollower, Reaches};
+ghost use Rattle.frame_parts.specs.Passing.{HasNumber, needed_classes, is_of_end, AreFar, PassesFar, IsMissing};
+ghost use Rattle.frame_parts.specs.Passing.{BeginsWith, Needs, FailsAt, IsFollower, Reaches};
 
 use crate::items::most_of;
 use crate::repeats::{branches_of, is_last};

@@ -1,5 +1,6 @@
 -- The lengths of lookbehinds.
-use Rattle.std.proofs.Common.{◌≡◌, ℕ, zero, suc, ◌≤◌, Bool, true, false, ◌==◌, nat_le, List, [], ◌∷◌, ◌++◌, flat_map, drop, length, All, Option, Some, None, refl, sym, ap, subst, arith, length-drop}
+use Rattle.std.proofs.Common.{◌≡◌, ℕ, zero, suc, ◌≤◌, Bool, true, false, ◌==◌, nat_le, List, [], ◌∷◌, ◌++◌, flat_map}
+use Rattle.std.proofs.Common.{drop, length, All, Option, Some, None, refl, sym, ap, subst, arith, length-drop}
 use Rattle.std.proofs.lemmas.Bool.{eqb-true, leb-true}
 use Rattle.std.proofs.lemmas.List.Elements.{All-nil, All-cons, All-head, All-tail, All-append}
 use Rattle.pat_tree.specs.declared.nodes.Node.{Node}
@@ -16,7 +17,8 @@ some_none a e = cc
 
 -- A branch that isn't refused has one length.
 
-same_lengths : (b : Bool) (x : Option ℕ) → (let z : Option ℕ = elim b [ true ↦ x | false ↦ Some 125 ] in z ≡ None) → (b ≡ true) × (x ≡ None)
+same_lengths : (b : Bool) (x : Option ℕ) → (let z : Option ℕ = elim b [ true ↦ x | false ↦ Some 125 ] in z ≡ None)
+    → (b ≡ true) × (x ≡ None)
 same_lengths true x e = (refl, e)
 same_lengths false x e = absurd (some_none 125 e)
 
@@ -24,7 +26,8 @@ not_long : (b : Bool) → (let z : Option ℕ = elim b [ true ↦ None | false �
 not_long true e = refl
 not_long false e = absurd (some_none 187 e)
 
-one_of : (least : ℕ) (most : Option ℕ) → branch_fault (between least most) ≡ None → (n : ℕ) × (between least most ≡ only n)
+one_of : (least : ℕ) (most : Option ℕ) → branch_fault (between least most) ≡ None
+    → (n : ℕ) × (between least most ≡ only n)
 one_of least None e = absurd (some_none 125 e)
 one_of least (Some most) e =
     let h = same_lengths (counted least == counted most) (too_long (counted most)) e in
@@ -43,7 +46,8 @@ unfolding places_back
 one_place g zero p = omega arith
 one_place g (suc n) p =
     elim (previous g p)
-    as (λ o. length (drop (suc n) (let z : List ℕ = elim o [ None ↦ p ∷ [] | Some c ↦ p ∷ places_back g n c.1 ] in z)) ≤ 1) [
+    as (λ o. length (drop (suc n) (let z : List ℕ = elim o [ None ↦ p ∷ [] | Some c ↦ p ∷ places_back g n c.1 ] in z))
+    ≤ 1) [
       | None ↦ omega (arith, length-drop (suc n) (p ∷ []))
       | Some c ↦ one_place g n c.1
     ]
@@ -61,11 +65,13 @@ module _ (P : Nested → Type 0) where
 
   flat_parts : (f : ℕ → List Nested) (ks : List ℕ) → All P (flat_map f ks) → All (λ k. All P (f k)) ks
   flat_parts f [] a = All-nil (λ k. All P (f k))
-  flat_parts f (k ∷ ks) a = All-cons (λ k. All P (f k)) k ks (front_all (f k) (flat_map f ks) a) (flat_parts f ks (back_all (f k) (flat_map f ks) a))
+  flat_parts f (k ∷ ks) a = All-cons (λ k. All P (f k)) k ks (front_all (f k) (flat_map f ks) a)
+      (flat_parts f ks (back_all (f k) (flat_map f ks) a))
 
   flat_join : (f : ℕ → List Nested) (ks : List ℕ) → All (λ k. All P (f k)) ks → All P (flat_map f ks)
   flat_join f [] a = All-nil P
-  flat_join f (k ∷ ks) a = All-append P (f k) (flat_map f ks) (All-head (λ k. All P (f k)) k ks a) (flat_join f ks (All-tail (λ k. All P (f k)) k ks a))
+  flat_join f (k ∷ ks) a = All-append P (f k) (flat_map f ks) (All-head (λ k. All P (f k)) k ks a)
+      (flat_join f ks (All-tail (λ k. All P (f k)) k ks a))
 
   module _ (ts : List Nested) (n : Node) (tests : All (λ k. is_test (tree_at ts k) ≡ true) (asserted_by n)) where
     parted : All P (all_nodes (nest ts n)) → All P (nest ts n ∷ flat_map (nodes_at true ts) (kids_of n))
@@ -75,9 +81,12 @@ module _ (P : Nested → Type 0) where
     all_here a = All-head P (nest ts n) (flat_map (nodes_at true ts) (kids_of n)) (parted a)
 
     pub all_below : All P (all_nodes (nest ts n)) → All (λ k. All P (all_nodes (tree_at ts k))) (kids_of n)
-    all_below a = flat_parts (nodes_at true ts) (kids_of n) (All-tail P (nest ts n) (flat_map (nodes_at true ts) (kids_of n)) (parted a))
+    all_below a = flat_parts (nodes_at true ts) (kids_of n)
+        (All-tail P (nest ts n) (flat_map (nodes_at true ts) (kids_of n)) (parted a))
 
-    pub all_joined : P (nest ts n) → All (λ k. All P (all_nodes (tree_at ts k))) (kids_of n) → All P (all_nodes (nest ts n))
+    pub all_joined : P (nest ts n) → All (λ k. All P (all_nodes (tree_at ts k))) (kids_of n)
+        → All P (all_nodes (nest ts n))
     all_joined p a =
         subst (All P) (sym (node_first true ts n tt tests))
-        (All-cons P (nest ts n) (flat_map (nodes_at true ts) (kids_of n)) p (flat_join (nodes_at true ts) (kids_of n) a))
+        (All-cons P (nest ts n) (flat_map (nodes_at true ts) (kids_of n)) p
+        (flat_join (nodes_at true ts) (kids_of n) a))

@@ -1,10 +1,12 @@
 -- The calls that are active in the frames of a stack.
-use Rattle.std.proofs.Common.{◌≡◌, ℕ, suc, ◌<◌, ◌≤◌, ◌∙◌, Bool, true, false, ◌==◌, ◌&&◌, ◌||◌, List, [], ◌∷◌, ◌++◌, reverse, Some, length, slice_get, inl, inr, refl, sym, ap, subst, arith, length-append}
+use Rattle.std.proofs.Common.{◌≡◌, ℕ, suc, ◌<◌, ◌≤◌, ◌∙◌, Bool, true, false, ◌==◌, ◌&&◌, ◌||◌, List, [], ◌∷◌, ◌++◌}
+use Rattle.std.proofs.Common.{reverse, Some, length, slice_get, inl, inr, refl, sym, ap, subst, arith, length-append}
 use Rattle.std.proofs.lemmas.List.Elements.{All-head, All-tail}
 use Rattle.std.proofs.lemmas.Bool.{cases_eq, cond-true, cond-false, eq-eqb, ne_eqb}
 use Rattle.frame_store.specs.declared.records.Record.{Record}
 use Rattle.frame_store.specs.declared.kinds.TheConstants.{KIND_CALL_OPEN}
-use Rattle.frame_store.specs.Entry.{Site, Entry, CallOpen, Other, site_of, entry_site, entry_table, entry_in, entry_of, entries, entry_kind}
+use Rattle.frame_store.specs.Entry.{Site, Entry, CallOpen, Other, site_of, entry_site, entry_table, entry_in}
+use Rattle.frame_store.specs.Entry.{entry_of, entries, entry_kind}
 use Rattle.frame_store.proofs.EntryLemmas.{entry_of-call_open, entry_kind-not}
 use Rattle.ordered_search.specs.Parts.{is_active}
 use Rattle.frame_state.specs.Calls.{calls_with, calls_at, AreWithin, Bounds, AreNested, IsLatest}
@@ -15,11 +17,13 @@ use Rattle.frame_state.specs.Validity.{IsSound, AreSound}
 use Rattle.frame_state.proofs.Frames.{around_here, around_below, link_sound}
 use Rattle.frame_state.proofs.Splits.{split}
 
-calls_here : (r : Entry) (below : List Entry) (l : ℕ) → l ≡ suc (length below) → calls_at (r ∷ below) l ≡ calls_with r (calls_at below (link_of r))
+calls_here : (r : Entry) (below : List Entry) (l : ℕ) → l ≡ suc (length below)
+    → calls_at (r ∷ below) l ≡ calls_with r (calls_at below (link_of r))
 unfolding calls_at
 calls_here r below l e = cond-true _ _ _ (eq-eqb _ _ e)
 
-calls_below : (r : Entry) (below : List Entry) (l : ℕ) → (l ≡ suc (length below) → ⊥) → calls_at (r ∷ below) l ≡ calls_at below l
+calls_below : (r : Entry) (below : List Entry) (l : ℕ) → (l ≡ suc (length below) → ⊥)
+    → calls_at (r ∷ below) l ≡ calls_at below l
 unfolding calls_at
 calls_below r below l n = cond-false _ _ _ (ne_eqb _ _ n)
 
@@ -38,18 +42,25 @@ around_calls c (r ∷ below) l =
           ∙ framed_calls r (around c below (link_of r))
           ∙ ap (calls_with r) (around_calls c below (link_of r))
           ∙ sym (calls_here r below l here)
-      | inr not' ↦ ap (λ (a : Around). a.calls) (around_below c r below l not') ∙ around_calls c below l ∙ sym (calls_below r below l not')
+      | inr not' ↦ ap (λ (a : Around). a.calls) (around_below c r below l not') ∙ around_calls c below l
+          ∙ sym (calls_below r below l not')
     ]
 
 -- what holds of a valid stack
 
-bounded : (c : Ground) (left slots : ℕ) (below : List Entry) (r : Entry) → IsSound c left slots below r → Bounds r (calls_at below (link_of r))
-bounded c left slots below (CallOpen at kept group last) s = subst (λ (xs : List (ℕ × ℕ)). AreWithin last ((group, kept.place) ∷ xs)) (around_calls c below at.link) s.2
+bounded : (c : Ground) (left slots : ℕ) (below : List Entry) (r : Entry) → IsSound c left slots below r
+    → Bounds r (calls_at below (link_of r))
+bounded c left slots below (CallOpen at kept group last) s =
+    subst (λ (xs : List (ℕ × ℕ)). AreWithin last ((group, kept.place) ∷ xs)) (around_calls c below at.link) s.2
 bounded c left slots below _ s = tt
 
 pub nested : (c : Ground) (left slots : ℕ) (stack : List Entry) → AreSound c left slots stack → AreNested stack
 nested c left slots [] s = tt
-nested c left slots (r ∷ below) s = (link_sound c left slots below r s.0, bounded c left slots below r s.0, nested c left slots below s.1)
+nested c left slots (r ∷ below) s = (
+  link_sound c left slots below r s.0,
+  bounded c left slots below r s.0,
+  nested c left slots below s.1,
+)
 
 -- The site of a record's entry.
 
@@ -60,13 +71,15 @@ abbrev AreSited : Site → List (ℕ × Entry) → Type 0
 AreSited s [] = Unit {0}
 AreSited s ((k, e) ∷ rest) = IsSited s e × AreSited s rest
 
-entry_in_sited : (s : Site) (table : List (ℕ × Entry)) (kind : ℕ) (other : Entry) → AreSited s table → IsSited s other → IsSited s (entry_in table kind other)
+entry_in_sited : (s : Site) (table : List (ℕ × Entry)) (kind : ℕ) (other : Entry) → AreSited s table → IsSited s other
+    → IsSited s (entry_in table kind other)
 unfolding entry_in
 entry_in_sited s [] kind other h o = o
 entry_in_sited s ((k, e) ∷ rest) kind other h o =
     elim (cases_eq kind k) [
       | inl same ↦ subst (IsSited s) (sym (cond-true _ _ _ (eq-eqb _ _ same))) h.0
-      | inr differs ↦ subst (IsSited s) (sym (cond-false _ _ _ (ne_eqb _ _ differs))) (entry_in_sited s rest kind other h.1 o)
+      | inr differs ↦ subst (IsSited s) (sym (cond-false _ _ _ (ne_eqb _ _ differs)))
+          (entry_in_sited s rest kind other h.1 o)
     ]
 
 here : {s : Site} {e : Entry} → entry_site e ≡ s → IsSited s e
@@ -74,8 +87,55 @@ here h = record { same = h }
 
 pub site_is : (r : Record) → entry_site (entry_of r) ≡ site_of r
 site_is r =
-    (entry_in_sited (site_of r) (entry_table r) r.kind (Other (site_of r))
-    (here refl, (here refl, (here refl, (here refl, (here refl, (here refl, (here refl, (here refl, (here refl, (here refl, (here refl, (here refl, (here refl, (here refl, (here refl, (here refl, (here refl, (here refl, (here refl, (here refl, (here refl, (here refl, tt))))))))))))))))))))))
+    (entry_in_sited (site_of r) (entry_table r) r.kind (Other (site_of r)) (
+      here refl,
+      (
+        here refl,
+        (
+          here refl,
+          (
+            here refl,
+            (
+              here refl,
+              (
+                here refl,
+                (
+                  here refl,
+                  (
+                    here refl,
+                    (
+                      here refl,
+                      (
+                        here refl,
+                        (
+                          here refl,
+                          (
+                            here refl,
+                            (
+                              here refl,
+                              (
+                                here refl,
+                                (
+                                  here refl,
+                                  (
+                                    here refl,
+                                    (here refl, (here refl, (here refl, (here refl, (here refl, (here refl, tt)))))),
+                                  ),
+                                ),
+                              ),
+                            ),
+                          ),
+                        ),
+                      ),
+                    ),
+                  ),
+                ),
+              ),
+            ),
+          ),
+        ),
+      ),
+    )
     (here refl)).same
 
 pub link_is : (r : Record) → link_of (entry_of r) ≡ r.link
@@ -97,7 +157,8 @@ pub record IsFrame (records : List Record) (i : ℕ) (p : Record) : Type 0 where
   pub low : p.link ≤ i
   pub bounds : Bounds (entry_of p) (calls_at (entries records) p.link)
 
-pub frame_at : (records : List Record) (i : ℕ) (p : Record) → AreNested (entries records) → slice_get (reverse records) i ≡ Some p → IsFrame records i p
+pub frame_at : (records : List Record) (i : ℕ) (p : Record) → AreNested (entries records)
+    → slice_get (reverse records) i ≡ Some p → IsFrame records i p
 frame_at records i p n at =
     let z = split records i p at in
     let r : Entry = entry_of p in
@@ -105,11 +166,15 @@ frame_at records i p n at =
     let link : link_of r ≡ p.link = link_is p in
     let low : link_of r ≤ length z.below = inner.0 in
     let same : calls_at (entries records) (link_of r) ≡ calls_at z.below (link_of r) =
-    ap (λ (es : List Entry). calls_at es (link_of r)) z.is ∙ calls_deep z.above (r ∷ z.below) (link_of r) (omega (arith, low)) ∙ calls_below r z.below (link_of r) (λ e. omega (arith, e, low)) in
-    let there : calls_at z.below (link_of r) ≡ calls_at (entries records) p.link = sym same ∙ ap (calls_at (entries records)) link in
+    ap (λ (es : List Entry). calls_at es (link_of r)) z.is
+    ∙ calls_deep z.above (r ∷ z.below) (link_of r) (omega (arith, low))
+    ∙ calls_below r z.below (link_of r) (λ e. omega (arith, e, low)) in
+    let there : calls_at z.below (link_of r) ≡ calls_at (entries records) p.link = sym same
+    ∙ ap (calls_at (entries records)) link in
     record {
       calls =
-          ap (λ (es : List Entry). calls_at es (suc i)) z.is ∙ calls_deep z.above (r ∷ z.below) (suc i) (omega (arith, z.height))
+          ap (λ (es : List Entry). calls_at es (suc i)) z.is
+          ∙ calls_deep z.above (r ∷ z.below) (suc i) (omega (arith, z.height))
           ∙ calls_here r z.below (suc i) z.height ∙ ap (calls_with r) there;
       low = omega (arith, low, link, z.height);
       bounds = subst (Bounds r) there inner.1;
@@ -120,7 +185,8 @@ plain_calls : (r : Entry) (calls : List (ℕ × ℕ)) → (entry_kind r ≡ KIND
 plain_calls (CallOpen at kept group last) calls n = absurd (n refl)
 plain_calls _ calls n = refl
 
-module _ (records : List Record) (frame height : ℕ) (n : AreNested (entries records)) (same : calls_at (entries records) height ≡ calls_at (entries records) frame) (low : height ≤ frame)
+module _ (records : List Record) (frame height : ℕ) (n : AreNested (entries records))
+    (same : calls_at (entries records) height ≡ calls_at (entries records) frame) (low : height ≤ frame)
     (i : ℕ) (is : height ≡ suc i) (p : Record) (at : slice_get (reverse records) i ≡ Some p) where
   here_calls : calls_at (entries records) frame ≡ calls_with (entry_of p) (calls_at (entries records) p.link)
   here_calls = sym same ∙ ap (calls_at (entries records)) is ∙ (frame_at records i p n at).calls
@@ -136,8 +202,10 @@ module _ (records : List Record) (frame height : ℕ) (n : AreNested (entries re
         subst (λ (r : Entry). Bounds r (calls_at (entries records) p.link)) e (frame_at records i p n at).bounds,
       )
 
-  pub latest_outer : (p.kind ≡ KIND_CALL_OPEN → ⊥) → calls_at (entries records) p.link ≡ calls_at (entries records) frame
-  latest_outer other = sym (here_calls ∙ plain_calls (entry_of p) (calls_at (entries records) p.link) (entry_kind-not p KIND_CALL_OPEN (omega arith) other))
+  pub latest_outer : (p.kind ≡ KIND_CALL_OPEN → ⊥) → calls_at (entries records) p.link ≡ calls_at (entries records)
+      frame
+  latest_outer other = sym (here_calls ∙ plain_calls (entry_of p) (calls_at (entries records) p.link)
+      (entry_kind-not p KIND_CALL_OPEN (omega arith) other))
 
 pub calls_none : (stack : List Entry) → calls_at stack 0 ≡ []
 unfolding calls_at
@@ -161,12 +229,14 @@ none_past n p last (x ∷ calls) a lt =
     and_false false b = refl
 
 -- the latest one is, or one of the others may be
-pub active_here : (n p slot place : ℕ) (calls : List (ℕ × ℕ)) → slot ≡ n → place ≡ p → is_active n p ((slot, place) ∷ calls) ≡ true
+pub active_here : (n p slot place : ℕ) (calls : List (ℕ × ℕ)) → slot ≡ n → place ≡ p
+    → is_active n p ((slot, place) ∷ calls) ≡ true
 active_here n p slot place calls a b =
     ap (λ (x : Bool). x && (place == p) || is_active n p calls) (eq-eqb slot n a)
     ∙ ap (λ (x : Bool). x || is_active n p calls) (eq-eqb place p b)
 
-pub active_outer : (n p slot place : ℕ) (calls : List (ℕ × ℕ)) → (slot ≡ n → place ≡ p → ⊥) → is_active n p ((slot, place) ∷ calls) ≡ is_active n p calls
+pub active_outer : (n p slot place : ℕ) (calls : List (ℕ × ℕ)) → (slot ≡ n → place ≡ p → ⊥)
+    → is_active n p ((slot, place) ∷ calls) ≡ is_active n p calls
 active_outer n p slot place calls other =
     elim (cases_eq slot n) [
       | inl same ↦

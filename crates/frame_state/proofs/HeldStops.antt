@@ -10,7 +10,8 @@ use Rattle.frame_state.specs.declared.machine.Met.{Met}
 use Rattle.frame_state.specs.Stops.{Told, IsStop, IsEnd, IsHeldStop, told}
 
 module _ (limit units : ℕ) (spot old : Spot) (caps : Captures) (w : Walked) (kept : spot.last ≡ old.last) where
-  pub held_stop : (s : Stop) → IsHeldStop s limit units → (limit ≤ units → w ≡ answers FrameLimit) → IsStop s spot caps (told old.last w)
+  pub held_stop : (s : Stop) → IsHeldStop s limit units → (limit ≤ units → w ≡ answers FrameLimit)
+      → IsStop s spot caps (told old.last w)
   held_stop stop.Match h k = absurd h
   held_stop stop.NoMatch h k = absurd h
   held_stop (stop.Verb a) h k = absurd h
@@ -22,11 +23,13 @@ module _ (limit units : ℕ) (spot old : Spot) (caps : Captures) (w : Walked) (k
   held_stop stop.Memory h k = tt
 
 -- what is told where the answer is this
-pub tells_stop : (spot : Spot) (w : Walked) (a : PlaceAnswer) → w ≡ answers a → told spot.last w ≡ told spot.last (answers a)
+pub tells_stop : (spot : Spot) (w : Walked) (a : PlaceAnswer) → w ≡ answers a
+    → told spot.last w ≡ told spot.last (answers a)
 tells_stop spot w a e = ap (told spot.last) e
 
 -- no verb ended the search
-pub stop_end : (c : Ground) (s : Stop) (spot : Spot) (caps : Captures) (t : Told) → IsStop s spot caps t → IsEnd c s spot caps t
+pub stop_end : (c : Ground) (s : Stop) (spot : Spot) (caps : Captures) (t : Told) → IsStop s spot caps t
+    → IsEnd c s spot caps t
 stop_end c stop.Match spot caps t e = e
 stop_end c stop.NoMatch spot caps t e = e
 stop_end c (stop.Verb a) spot caps t e = absurd e

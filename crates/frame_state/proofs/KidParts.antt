@@ -1,5 +1,6 @@
 -- The parts that the search comes to from a part.
-use Rattle.std.proofs.Common.{◌≡◌, ℕ, suc, ◌<◌, ◌≤◌, Bool, true, false, if◌then◌else◌, List, [], ◌∷◌, ◌++◌, get_or, All, Option, Some, None, IfSome, sym, subst, arith}
+use Rattle.std.proofs.Common.{◌≡◌, ℕ, suc, ◌<◌, ◌≤◌, Bool, true, false, if◌then◌else◌, List, [], ◌∷◌, ◌++◌, get_or}
+use Rattle.std.proofs.Common.{All, Option, Some, None, IfSome, sym, subst, arith}
 use Rattle.std.proofs.lemmas.List.Elements.{All-nil, All-cons, All-head, All-tail, All-append, All-weaker}
 use Rattle.pat_tree.specs.declared.nodes.Node.{Node}
 use Rattle.pat_tree.specs.declared.nodes.Node.TheVariants as node
@@ -11,13 +12,15 @@ use Rattle.node_flow.specs.Linked.{AreChained, AllFollowed, IsLinked}
 use Rattle.node_flow.specs.Order.{StandInTurn}
 use Rattle.ordered_search.specs.Setting.{branch_lengths}
 use Rattle.frame_state.specs.Behind.{HasFixed}
-use Rattle.frame_state.specs.Ground.{Ground, tree_of, IsNode, IsGround, IsMeasuredIn, IsOfPattern, StandLater, BeginsBy, IsPart}
+use Rattle.frame_state.specs.Ground.{Ground, tree_of, IsNode, IsGround, IsMeasuredIn, IsOfPattern, StandLater}
+use Rattle.frame_state.specs.Ground.{BeginsBy, IsPart}
 use Rattle.frame_state.proofs.BehindLemmas.{all_below}
 
 module _ (c : Ground) where
   front_all : (P : ℕ → Type 0) (xs ys : List ℕ) → All P (xs ++ ys) → All P xs
   front_all P [] ys a = All-nil P
-  front_all P (x ∷ xs) ys a = All-cons P x xs (All-head P x (xs ++ ys) a) (front_all P xs ys (All-tail P x (xs ++ ys) a))
+  front_all P (x ∷ xs) ys a = All-cons P x xs (All-head P x (xs ++ ys) a)
+      (front_all P xs ys (All-tail P x (xs ++ ys) a))
 
   back_all : (P : ℕ → Type 0) (xs ys : List ℕ) → All P (xs ++ ys) → All P ys
   back_all P [] ys a = a
@@ -32,7 +35,8 @@ module _ (c : Ground) where
   -- a branch that began by a part began by one that stands later
   pub begins_later : (q k p : ℕ) → c.rank q ≤ c.rank k → BeginsBy c q p → BeginsBy c k p
   begins_later q k p le by =
-      (elim (c.branch p) as (λ (o : Option ℕ). IfSome o (λ b. c.rank b ≤ c.rank q) → IfSome o (λ b. c.rank b ≤ c.rank k)) [
+      (elim (c.branch p) as (λ (o : Option ℕ). IfSome o (λ b. c.rank b ≤ c.rank q) → IfSome o
+      (λ b. c.rank b ≤ c.rank k)) [
         | None ↦ λ h. h
         | Some b ↦ λ h. omega (arith, h, le)
       ]) by
@@ -53,7 +57,8 @@ module _ (c : Ground) where
     branch_own_if (b ∷ []) o e h = branch_as P k o e h
     branch_own_if (b ∷ b' ∷ bs) o e h = branch_as P k (Some k) e own
 
-    branch_chosen : (b : Bool) (o : Option ℕ) → c.branch k ≡ (if b then o else None) → IfSome o P → IfSome (c.branch k) P
+    branch_chosen : (b : Bool) (o : Option ℕ) → c.branch k ≡ (if b then o else None) → IfSome o P
+        → IfSome (c.branch k) P
     branch_chosen true o e h = branch_as P k o e h
     branch_chosen false o e h = branch_as P k None e tt
 
@@ -77,12 +82,14 @@ module _ (c : Ground) where
     kid_branch (node.Callout number from to at len) o e h = branch_as P k None e tt
 
   -- the branch around a child began by then, where that around its node did
-  kid_begins : (n : Node) (o : Option ℕ) (k : ℕ) → c.branch k ≡ branch_child n o k → IfSome o (λ b. c.rank b ≤ c.rank k) → BeginsBy c k k
+  kid_begins : (n : Node) (o : Option ℕ) (k : ℕ) → c.branch k ≡ branch_child n o k
+      → IfSome o (λ b. c.rank b ≤ c.rank k) → BeginsBy c k k
   kid_begins n o k e h = kid_branch (λ b. c.rank b ≤ c.rank k) k (omega arith) n o e h
 
   module _ (spans : (k : ℕ) → c.rank k ≤ c.past k) where
     -- parts in turn stand between their ends
-    between : (from : ℕ) (ks : List ℕ) (to : ℕ) → StandInTurn c.rank c.past from ks to → (from ≤ to) × All (λ k. (from ≤ c.rank k) × (c.past k ≤ to)) ks
+    between : (from : ℕ) (ks : List ℕ) (to : ℕ) → StandInTurn c.rank c.past from ks to
+        → (from ≤ to) × All (λ k. (from ≤ c.rank k) × (c.past k ≤ to)) ks
     between from [] to t = (omega (arith, t), All-nil (λ k. (from ≤ c.rank k) × (c.past k ≤ to)))
     between from (k ∷ ks) to t =
         let at : c.rank k ≡ from = t.0 in
@@ -96,8 +103,10 @@ module _ (c : Ground) where
         )
 
     -- The children of a part q, where what follows it is `after`.
-    module _ (q : ℕ) (after : List ℕ) (later : StandLater c q after) (own : BeginsBy c q q) (begun : All (BeginsBy c q) after) where
-      as_part : (k : ℕ) → IsOfPattern c k → All (IsOfPattern c) (c.rest k) → StandLater c k (c.rest k) → BeginsBy c k k → All (BeginsBy c k) (c.rest k) → IsPart c k
+    module _ (q : ℕ) (after : List ℕ) (later : StandLater c q after) (own : BeginsBy c q q)
+        (begun : All (BeginsBy c q) after) where
+      as_part : (k : ℕ) → IsOfPattern c k → All (IsOfPattern c) (c.rest k) → StandLater c k (c.rest k)
+          → BeginsBy c k k → All (BeginsBy c k) (c.rest k) → IsPart c k
       as_part k first followed stands by all = record {
         within = first.0;
         measured = first.1;
@@ -108,12 +117,14 @@ module _ (c : Ground) where
         begun = All-cons (BeginsBy c k) k (c.rest k) by all;
       }
 
-      stands_later : (k : ℕ) (ks : List ℕ) → StandInTurn c.rank c.past (c.past k) ks (c.past q) → StandLater c k (ks ++ after)
+      stands_later : (k : ℕ) (ks : List ℕ) → StandInTurn c.rank c.past (c.past k) ks (c.past q)
+          → StandLater c k (ks ++ after)
       stands_later k [] t = later_from q k after (omega (arith, t)) later
       stands_later k (x ∷ xs) t = let at : c.rank x ≡ c.past k = t.0 in (omega (arith, at), stands_later x xs t.1)
 
       -- parts that follow one another, before others
-      chained_parts : (from : ℕ) (ks : List ℕ) → AreChained c.rest ks after → All (IsOfPattern c) ks → All (IsOfPattern c) after →
+      chained_parts : (from : ℕ) (ks : List ℕ) → AreChained c.rest ks after → All (IsOfPattern c) ks
+          → All (IsOfPattern c) after →
           c.rank q ≤ from → StandInTurn c.rank c.past from ks (c.past q) → All (BeginsBy c q) ks → All (IsPart c) ks
       chained_parts from [] l a b low t by = All-nil (IsPart c)
       chained_parts from (k ∷ ks) l a b low t by =
@@ -122,7 +133,8 @@ module _ (c : Ground) where
           let wide : c.rank k ≤ c.past k = spans k in
           let at : c.rank k ≡ from = t.0 in
           let up : c.rank q ≤ c.rank k = omega (arith, at, low) in
-          let all : All (BeginsBy c q) (ks ++ after) = All-append (BeginsBy c q) ks after (All-tail (BeginsBy c q) k ks by) begun in
+          let all : All (BeginsBy c q) (ks ++ after) = All-append (BeginsBy c q) ks after
+          (All-tail (BeginsBy c q) k ks by) begun in
           All-cons (IsPart c) k ks
           (as_part k first (subst (All (IsOfPattern c)) (sym l.0) (All-append (IsOfPattern c) ks after others b))
           (subst (StandLater c k) (sym l.0) (stands_later k ks t.1))
@@ -131,8 +143,10 @@ module _ (c : Ground) where
           (chained_parts (c.past k) ks l.1 others b (omega (arith, up, wide)) t.1 (All-tail (BeginsBy c q) k ks by))
 
       -- parts each of which others follow, which are those that follow q or none
-      followed_parts : (then' ks : List ℕ) → StandLater c q then' → All (BeginsBy c q) then' → AllFollowed c.rest then' ks → All (IsOfPattern c) ks → All (IsOfPattern c) then' →
-          All (λ k. (suc (c.rank q) ≤ c.rank k) × (c.past k ≤ c.past q)) ks → All (λ k. BeginsBy c k k) ks → All (IsPart c) ks
+      followed_parts : (then' ks : List ℕ) → StandLater c q then' → All (BeginsBy c q) then'
+          → AllFollowed c.rest then' ks → All (IsOfPattern c) ks → All (IsOfPattern c) then' →
+          All (λ k. (suc (c.rank q) ≤ c.rank k) × (c.past k ≤ c.past q)) ks → All (λ k. BeginsBy c k k) ks
+          → All (IsPart c) ks
       followed_parts then' ks stands by l a b places owns = λ i d m.
           let k : ℕ = get_or ks i d in
           let low : suc (c.rank q) ≤ c.rank k = (places i d m).0 in
@@ -147,8 +161,10 @@ module _ (c : Ground) where
       outer_begins k le = begins_later q k q le own
 
       parts_by : (n : Node) → IsLinked c.rest after n → All (IsOfPattern c) (kids_of n) → All (IsOfPattern c) after →
-          StandInTurn c.rank c.past (suc (c.rank q)) (kids_of n) (c.past q) → All (λ k. c.branch k ≡ branch_child n (c.branch q) k) (kids_of n) →
-          All (λ k. (suc (c.rank q) ≤ c.rank k) × (c.past k ≤ c.past q)) (kids_of n) → All (λ k. BeginsBy c k k) (kids_of n) → All (IsPart c) (kids_of n)
+          StandInTurn c.rank c.past (suc (c.rank q)) (kids_of n) (c.past q)
+          → All (λ k. c.branch k ≡ branch_child n (c.branch q) k) (kids_of n) →
+          All (λ k. (suc (c.rank q) ≤ c.rank k) × (c.past k ≤ c.past q)) (kids_of n)
+          → All (λ k. BeginsBy c k k) (kids_of n) → All (IsPart c) (kids_of n)
       parts_by node.Empty l a r t w places owns = All-nil (IsPart c)
       parts_by (node.One item) l a r t w places owns = All-nil (IsPart c)
       parts_by node.Break l a r t w places owns = All-nil (IsPart c)
@@ -156,11 +172,15 @@ module _ (c : Ground) where
           chained_parts (suc (c.rank q)) ks l a r (omega arith) t
           (λ i d m. begins_as q (get_or ks i d) (c.branch q) (w i d m) own)
       parts_by (node.Group None ks) l a r t w places owns = followed_parts after ks later begun l a r places owns
-      parts_by (node.Group (Some m) ks) l a r t w places owns = followed_parts [] ks tt (All-nil (BeginsBy c q)) l a (All-nil (IsOfPattern c)) places owns
+      parts_by (node.Group (Some m) ks) l a r t w places owns =
+          followed_parts [] ks tt (All-nil (BeginsBy c q)) l a (All-nil (IsOfPattern c)) places owns
       parts_by (node.Repeat body low high lazily) l a r t w places owns =
-          followed_parts [] (body ∷ []) tt (All-nil (BeginsBy c q)) (All-cons (λ k. c.rest k ≡ []) body [] l (All-nil (λ k. c.rest k ≡ []))) a (All-nil (IsOfPattern c)) places owns
+          followed_parts [] (body ∷ []) tt (All-nil (BeginsBy c q))
+          (All-cons (λ k. c.rest k ≡ []) body [] l (All-nil (λ k. c.rest k ≡ []))) a (All-nil (IsOfPattern c))
+          places owns
       parts_by (node.OneRepeat item low high lazily) l a r t w places owns = All-nil (IsPart c)
-      parts_by (node.Atomic ks) l a r t w places owns = followed_parts [] ks tt (All-nil (BeginsBy c q)) l a (All-nil (IsOfPattern c)) places owns
+      parts_by (node.Atomic ks) l a r t w places owns =
+          followed_parts [] ks tt (All-nil (BeginsBy c q)) l a (All-nil (IsOfPattern c)) places owns
       parts_by (node.Look ahead positive once ks) l a r t w places owns =
           followed_parts [] ks tt (All-nil (BeginsBy c q)) l a (All-nil (IsOfPattern c)) places owns
       parts_by (node.Cond test yes' no') l a r t w places owns =
@@ -168,8 +188,11 @@ module _ (c : Ground) where
           let tests : List ℕ = tests_of test in
           let ends : List ℕ = yes' ∷ number_in no' in
           All-append (IsPart c) tests ends
-          (followed_parts [] tests tt (All-nil (BeginsBy c q)) l.0 (front_all (IsOfPattern c) tests ends a) (All-nil (IsOfPattern c)) (front_all P tests ends places) (front_all (λ k. BeginsBy c k k) tests ends owns))
-          (followed_parts after ends later begun l.1 (back_all (IsOfPattern c) tests ends a) r (back_all P tests ends places) (back_all (λ k. BeginsBy c k k) tests ends owns))
+          (followed_parts [] tests tt (All-nil (BeginsBy c q)) l.0 (front_all (IsOfPattern c) tests ends a)
+          (All-nil (IsOfPattern c)) (front_all P tests ends places)
+          (front_all (λ k. BeginsBy c k k) tests ends owns))
+          (followed_parts after ends later begun l.1 (back_all (IsOfPattern c) tests ends a) r
+          (back_all P tests ends places) (back_all (λ k. BeginsBy c k k) tests ends owns))
       parts_by (node.Call m) l a r t w places owns = All-nil (IsPart c)
       parts_by (node.Ref ns caseless) l a r t w places owns = All-nil (IsPart c)
       parts_by (node.Anchor kind) l a r t w places owns = All-nil (IsPart c)
@@ -178,7 +201,8 @@ module _ (c : Ground) where
       parts_by (node.Callout number from to at len) l a r t w places owns = All-nil (IsPart c)
 
       parts_under : (n : Node) → IsLinked c.rest after n → All (IsOfPattern c) (kids_of n) → All (IsOfPattern c) after →
-          StandInTurn c.rank c.past (suc (c.rank q)) (kids_of n) (c.past q) → All (λ k. c.branch k ≡ branch_child n (c.branch q) k) (kids_of n) → All (IsPart c) (kids_of n)
+          StandInTurn c.rank c.past (suc (c.rank q)) (kids_of n) (c.past q)
+          → All (λ k. c.branch k ≡ branch_child n (c.branch q) k) (kids_of n) → All (IsPart c) (kids_of n)
       parts_under n l a r t branched =
           let places = (between (suc (c.rank q)) (kids_of n) (c.past q) t).1 in
           let owns : All (λ k. BeginsBy c k k) (kids_of n) = λ i d m.
@@ -188,20 +212,26 @@ module _ (c : Ground) where
           parts_by n l a r t branched places owns
 
   -- the children of a part
-  pub kid_parts_of : (q : ℕ) (n : Node) → IsPart c q → nest c.trees n ≡ tree_of c q → All (λ k. k < q) (kids_of n) → IsLinked c.rest (c.rest q) n →
-      All (λ k. is_test (tree_of c k) ≡ true) (asserted_by n) → All (λ k. c.under k ≡ true) (kids_of n) → ((k : ℕ) → c.rank k ≤ c.past k) →
-      StandInTurn c.rank c.past (suc (c.rank q)) (kids_of n) (c.past q) → All (λ k. c.branch k ≡ branch_child n (c.branch q) k) (kids_of n) → All (IsPart c) (kids_of n)
+  pub kid_parts_of : (q : ℕ) (n : Node) → IsPart c q → nest c.trees n ≡ tree_of c q → All (λ k. k < q) (kids_of n)
+      → IsLinked c.rest (c.rest q) n →
+      All (λ k. is_test (tree_of c k) ≡ true) (asserted_by n) → All (λ k. c.under k ≡ true) (kids_of n)
+      → ((k : ℕ) → c.rank k ≤ c.past k) →
+      StandInTurn c.rank c.past (suc (c.rank q)) (kids_of n) (c.past q)
+      → All (λ k. c.branch k ≡ branch_child n (c.branch q) k) (kids_of n) → All (IsPart c) (kids_of n)
   kid_parts_of q n p is below linked tests under spans in_turn branched =
       let P : Nested → Type 0 = HasFixed (branch_lengths c.setting) in
-      let measured : All (λ k. IsMeasuredIn c (tree_of c k)) (kids_of n) = all_below P c.trees n tests (subst (IsMeasuredIn c) (sym is) p.measured) in
-      parts_under spans q (c.rest q) p.later (All-head (BeginsBy c q) q (c.rest q) p.begun) (All-tail (BeginsBy c q) q (c.rest q) p.begun) n linked
+      let measured : All (λ k. IsMeasuredIn c (tree_of c k)) (kids_of n) =
+      all_below P c.trees n tests (subst (IsMeasuredIn c) (sym is) p.measured) in
+      parts_under spans q (c.rest q) p.later (All-head (BeginsBy c q) q (c.rest q) p.begun)
+      (All-tail (BeginsBy c q) q (c.rest q) p.begun) n linked
       (λ j d m.
       let lt = below j d m in
       let within : get_or (kids_of n) j d ≤ c.root = omega (arith, lt, p.within) in (
         within,
         measured j d m,
         under j d m,
-        kid_branch (λ b. (b ≤ c.root) × (c.under b ≡ true)) (get_or (kids_of n) j d) (within, under j d m) n (c.branch q) (branched j d m) p.among,
+        kid_branch (λ b. (b ≤ c.root) × (c.under b ≡ true)) (get_or (kids_of n) j d) (within, under j d m) n
+            (c.branch q) (branched j d m) p.among,
       )) p.followed in_turn branched
 
   pub kid_parts : (q : ℕ) (n : Node) → IsPart c q → IsNode c q n → All (IsPart c) (kids_of n)
@@ -210,7 +240,8 @@ module _ (c : Ground) where
   -- they stand behind it
   pub kid_ranks : (q : ℕ) (n : Node) → IsNode c q n → All (λ k. c.rank q < c.rank k) (kids_of n)
   kid_ranks q n i = λ j d m.
-      let place : suc (c.rank q) ≤ c.rank (get_or (kids_of n) j d) = ((between i.spans (suc (c.rank q)) (kids_of n) (c.past q) i.in_turn).1 j d m).0 in
+      let place : suc (c.rank q) ≤ c.rank (get_or (kids_of n) j d) =
+      ((between i.spans (suc (c.rank q)) (kids_of n) (c.past q) i.in_turn).1 j d m).0 in
       omega (arith, place)
 
   -- the part that follows stands later
@@ -227,7 +258,8 @@ module _ (c : Ground) where
       let first = All-head (IsOfPattern c) p ps all in
       let rest : c.rest p ≡ ps = ok.chained q p ps h.within e in
       let l : StandLater c q (p ∷ ps) = subst (StandLater c q) e h.later in
-      let by : All (BeginsBy c q) (p ∷ ps) = subst (All (BeginsBy c q)) e (All-tail (BeginsBy c q) q (c.rest q) h.begun) in
+      let by : All (BeginsBy c q) (p ∷ ps) = subst (All (BeginsBy c q)) e
+      (All-tail (BeginsBy c q) q (c.rest q) h.begun) in
       record {
         within = first.0;
         measured = first.1;
@@ -235,7 +267,8 @@ module _ (c : Ground) where
         under = first.2;
         among = first.3;
         later = subst (StandLater c p) (sym rest) l.1;
-        begun = subst (λ xs. All (BeginsBy c p) (p ∷ xs)) (sym rest) (begins_all q p (p ∷ ps) (next_rank ok q p ps h e) by);
+        begun = subst (λ xs. All (BeginsBy c p) (p ∷ xs)) (sym rest)
+            (begins_all q p (p ∷ ps) (next_rank ok q p ps h e) by);
       }
 
   -- the whole pattern
@@ -247,5 +280,7 @@ module _ (c : Ground) where
     under = ok.whole_under;
     among = branch_as (λ b. (b ≤ c.root) × (c.under b ≡ true)) c.root None ok.whole_alone tt;
     later = subst (StandLater c c.root) (sym ok.last) tt;
-    begun = subst (λ xs. All (BeginsBy c c.root) (c.root ∷ xs)) (sym ok.last) (All-cons (BeginsBy c c.root) c.root [] (begins_as c.root c.root None ok.whole_alone tt) (All-nil (BeginsBy c c.root)));
+    begun = subst (λ xs. All (BeginsBy c c.root) (c.root ∷ xs)) (sym ok.last)
+        (All-cons (BeginsBy c c.root) c.root [] (begins_as c.root c.root None ok.whole_alone tt)
+        (All-nil (BeginsBy c c.root)));
   }

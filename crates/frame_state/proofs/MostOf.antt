@@ -14,7 +14,12 @@ pub record Most (t : Nested) (high : Option ℕ) : Type 0 where
   pub is : tree.one_repeat item low high lazily ≡ t
 
 pub most : (t : Nested) (high : Option ℕ) → IsMost t high → Most t high
-most (tree.one_repeat item low max lazily) high e = record { item = item; low = low; lazily = lazily; is = ap (λ x. tree.one_repeat item low x lazily) (sym e) }
+most (tree.one_repeat item low max lazily) high e = record {
+  item = item;
+  low = low;
+  lazily = lazily;
+  is = ap (λ x. tree.one_repeat item low x lazily) (sym e);
+}
 most _ high e = absurd e
 
 pub not_true : (b : Bool) → not b ≡ true → b ≡ false

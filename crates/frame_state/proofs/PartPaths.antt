@@ -1,5 +1,7 @@
 -- A part, by its node: what it stands for with what follows.
-use Rattle.std.proofs.Common.{◌≡◌, ℕ, zero, suc, ◌-◌, ◌<◌, ◌≤◌, ◌∙◌, Bool, true, false, List, [], ◌∷◌, ◌++◌, map, drop, reverse, length, All, Option, Some, None, slice_get, if◌then◌else◌, refl, sym, ap, subst, arith, not}
+use Rattle.std.proofs.Common.{◌≡◌, ℕ, zero, suc, ◌-◌, ◌<◌, ◌≤◌, ◌∙◌, Bool, true, false, List, [], ◌∷◌, ◌++◌, map}
+use Rattle.std.proofs.Common.{drop, reverse, length, All, Option, Some, None, slice_get, if◌then◌else◌, refl, sym}
+use Rattle.std.proofs.Common.{ap, subst, arith, not}
 use Rattle.std.proofs.lemmas.List.{drop-map}
 use Rattle.std.proofs.Math.ListN.{drop_of_length-le}
 use Rattle.std.proofs.lemmas.List.Elements.{All-nil, All-cons, All-head, All-tail}
@@ -15,13 +17,19 @@ use mathlib.Core.Path.{fun_ext}
 use Rattle.pat_tree.specs.declared.nodes.Cond.{Cond}
 use Rattle.pat_tree.specs.declared.nodes.Verb.{Verb}
 use Rattle.pat_tree.specs.declared.nodes.Cond.TheVariants as cond
-use Rattle.match_items.specs.Items.{is_none_left, after_item, item_reaches, longest_run, after_break, break_reaches, after_ref, ref_reaches, holds, anchor_reaches, earliest, places_back}
+use Rattle.match_items.specs.Items.{is_none_left, after_item, item_reaches, longest_run, after_break, break_reaches}
+use Rattle.match_items.specs.Items.{after_ref, ref_reaches, holds, anchor_reaches, earliest, places_back}
 use Rattle.frame_store.specs.declared.registers.Span.{Span}
 use Rattle.frame_store.specs.Captures.{capture}
 use Rattle.ordered_search.specs.Stream.{State, next_branch, prune, skip, commit, reached, accepted, shown}
 use Rattle.ordered_search.specs.Setting.{branch_lengths}
-use Rattle.ordered_search.specs.Moves.{Moves, pause, stepped, noted, Follow, Handler, Path, catching, going, holding, reaching}
-use Rattle.ordered_search.specs.Paths.{close, ref_path, many_paths, turn_path, repeat_path, go_path, parts_path, choice_paths, branch_paths, leave, Many, only_many, possessive_path, atomic_over, look_path, path, row_paths, behind_paths, try_path, tries_path, behind_path, paths, choose_path, other_path, test_path, assert_path, tested_path, answered, call_path, verb_path}
+use Rattle.ordered_search.specs.Moves.{Moves, pause, stepped, noted, Follow, Handler, Path, catching, going, holding}
+use Rattle.ordered_search.specs.Moves.{reaching}
+use Rattle.ordered_search.specs.Paths.{close, ref_path, many_paths, turn_path, repeat_path, go_path, parts_path}
+use Rattle.ordered_search.specs.Paths.{choice_paths, branch_paths, leave, Many, only_many, possessive_path}
+use Rattle.ordered_search.specs.Paths.{atomic_over, look_path, path, row_paths, behind_paths, try_path, tries_path}
+use Rattle.ordered_search.specs.Paths.{behind_path, paths, choose_path, other_path, test_path, assert_path}
+use Rattle.ordered_search.specs.Paths.{tested_path, answered, call_path, verb_path}
 use Rattle.frame_state.specs.declared.machine.Next.TheVariants.{Branch, Offer, Begin}
 use Rattle.node_flow.specs.Followers.{first_of}
 use Rattle.node_flow.specs.Branches.{branch_if, branch_child}
@@ -35,7 +43,9 @@ use Rattle.frame_state.specs.Reach.{referred_reaches}
 use Rattle.frame_state.specs.Ground.{Ground, tree_of, IsNode, IsMeasuredIn, IsPart, IsGround}
 use Rattle.frame_state.proofs.BehindLemmas.{one_length, one_place, all_here}
 use Rattle.frame_state.specs.Machine.{less, in_row, first_set, first_next, Outside}
-use Rattle.frame_state.specs.Frames.{after, past, enter, branch_rest, branch_from, offer_from, begin_from, turned_from, close_from, focus, branch_row, branch_path, other_from, chosen_from}
+use Rattle.frame_state.specs.Frames.{after, past, enter, branch_rest, branch_from, offer_from, begin_from}
+use Rattle.frame_state.specs.Frames.{turned_from, close_from, focus, branch_row, branch_path, other_from}
+use Rattle.frame_state.specs.Frames.{chosen_from}
 use Rattle.frame_state.proofs.KidParts.{kid_ranks}
 use Rattle.ordered_search.proofs.Same.{follow_same, holding_same}
 use Rattle.ordered_search.specs.Parts.{begun_at, some_set, is_called, is_called_of, block_of}
@@ -65,7 +75,8 @@ module _ (c : Ground) where
   unfolding after
   after_cons d k q qs s f = refl
 
-  pub after_accepted : (d : ℕ) (k : Outside) (qs : List ℕ) (s : State) (f : Moves) → after c d k qs accepted s f ≡ k.follow accepted s f
+  pub after_accepted : (d : ℕ) (k : Outside) (qs : List ℕ) (s : State) (f : Moves)
+      → after c d k qs accepted s f ≡ k.follow accepted s f
   unfolding after
   after_accepted d k [] s f = refl
   after_accepted d k (q ∷ qs) s f = refl
@@ -82,20 +93,25 @@ module _ (c : Ground) where
       follow_same (go_path (parts_path []) (after c d k qs) (k.hand q)) (after c d k qs)
       (elim [ reached ↦ λ s f. refl | accepted ↦ λ s f. refl ])
   parts_after d k q (p ∷ ps) qs a =
-      follow_same (go_path (parts_path (part_paths c d (p ∷ ps))) (after c d k qs) (k.hand q)) (after c d k (p ∷ ps ++ qs))
+      follow_same (go_path (parts_path (part_paths c d (p ∷ ps))) (after c d k qs) (k.hand q))
+      (after c d k (p ∷ ps ++ qs))
       (elim [
         | reached ↦ λ s f.
-            ap (λ (z : Follow). paths c.setting d (tree_of c p) s z f (k.hand q)) (parts_after d k q ps qs (All-tail (λ x. k.hand x ≡ k.hand q) p ps a))
-            ∙ ap (λ (z : Handler). paths c.setting d (tree_of c p) s (after c d k (ps ++ qs)) f z) (sym (All-head (λ x. k.hand x ≡ k.hand q) p ps a))
+            ap (λ (z : Follow). paths c.setting d (tree_of c p) s z f (k.hand q))
+            (parts_after d k q ps qs (All-tail (λ x. k.hand x ≡ k.hand q) p ps a))
+            ∙ ap (λ (z : Handler). paths c.setting d (tree_of c p) s (after c d k (ps ++ qs)) f z)
+            (sym (All-head (λ x. k.hand x ≡ k.hand q) p ps a))
         | accepted ↦ λ s f. after_accepted d k qs s f
       ])
 
-  row_parts : (d : ℕ) (ks : List ℕ) → row_paths c.setting d (paths c.setting d) (row (map (tree_at c.trees) ks)) ≡ part_paths c (suc d) ks
+  row_parts : (d : ℕ) (ks : List ℕ) → row_paths c.setting d (paths c.setting d)
+      (row (map (tree_at c.trees) ks)) ≡ part_paths c (suc d) ks
   unfolding path paths
   row_parts d [] = refl
   row_parts d (q ∷ ks) = ap (λ ps. paths c.setting (suc d) (tree_of c q) ∷ ps) (row_parts d ks)
 
-  pub in_row_parts : (d : ℕ) (ks : List ℕ) → in_row (paths c.setting d) (row (map (tree_at c.trees) ks)) ≡ part_paths c d ks
+  pub in_row_parts : (d : ℕ) (ks : List ℕ) → in_row (paths c.setting d) (row (map (tree_at c.trees) ks)) ≡ part_paths
+      c d ks
   in_row_parts d [] = refl
   in_row_parts d (q ∷ ks) = ap (λ ps. paths c.setting d (tree_of c q) ∷ ps) (in_row_parts d ks)
 
@@ -104,21 +120,26 @@ module _ (c : Ground) where
   unfolding paths
   paths_deep d e t s k f h deep = ap (λ x. paths c.setting x t s k f h) deep
 
-  pub row_deep : (d e : ℕ) (ks : List ℕ) → d ≡ suc e → row_paths c.setting e (paths c.setting e) (row (map (tree_at c.trees) ks)) ≡ part_paths c d ks
+  pub row_deep : (d e : ℕ) (ks : List ℕ) → d ≡ suc e → row_paths c.setting e (paths c.setting e)
+      (row (map (tree_at c.trees) ks)) ≡ part_paths c d ks
   row_deep d e ks deep = row_parts e ks ∙ ap (λ x. part_paths c x ks) (sym deep)
 
   -- a part with what follows it
-  module _ (q : ℕ) (n : Node) (i : IsNode c q n) (d z : ℕ) (k : Outside) (s : State) (f : Moves) (deep : d ≡ suc z) where
-    pub enter_node : enter c d k q s f ≡ path c.setting z (paths c.setting z) (nest c.trees n) s (past c d k q) f (k.hand q)
+  module _ (q : ℕ) (n : Node) (i : IsNode c q n) (d z : ℕ) (k : Outside) (s : State) (f : Moves)
+      (deep : d ≡ suc z) where
+    pub enter_node : enter c d k q s f ≡ path c.setting z (paths c.setting z) (nest c.trees n) s (past c d k q) f
+        (k.hand q)
     enter_node =
         paths_deep d z (tree_of c q) s (past c d k q) f (k.hand q) deep
         ∙ ap (λ t. path c.setting z (paths c.setting z) t s (past c d k q) f (k.hand q)) (sym i.is)
 
     pub enter_seq_none : n ≡ node.Seq [] → enter c d k q s f ≡ pause (past c d k q reached s f)
     unfolding path parts_path
-    enter_seq_none e = enter_node ∙ ap (λ m. path c.setting z (paths c.setting z) (nest c.trees m) s (past c d k q) f (k.hand q)) e
+    enter_seq_none e = enter_node
+        ∙ ap (λ m. path c.setting z (paths c.setting z) (nest c.trees m) s (past c d k q) f (k.hand q)) e
 
-    pub enter_seq : (p : ℕ) (ps : List ℕ) → Alike k q (p ∷ ps) → n ≡ node.Seq (p ∷ ps) → enter c d k q s f ≡ pause (enter c d k p s f)
+    pub enter_seq : (p : ℕ) (ps : List ℕ) → Alike k q (p ∷ ps) → n ≡ node.Seq (p ∷ ps)
+        → enter c d k q s f ≡ pause (enter c d k p s f)
     unfolding path parts_path
     enter_seq p ps a e =
         let l : AreChained c.rest (p ∷ ps) (c.rest q) = subst (IsLinked c.rest (c.rest q)) e i.linked in
@@ -128,14 +149,16 @@ module _ (c : Ground) where
         ∙ ap (λ (xs : List Path). pause (parts_path xs s K f (k.hand q))) (row_deep d z (p ∷ ps) deep)
         ∙ ap (λ (z : Follow). pause (paths c.setting d (tree_of c p) s z f (k.hand q)))
         (parts_after d k q ps (c.rest q) (All-tail (λ x. k.hand x ≡ k.hand q) p ps a) ∙ ap (after c d k) (sym l.0))
-        ∙ ap (λ (z : Handler). pause (paths c.setting d (tree_of c p) s (past c d k p) f z)) (sym (All-head (λ x. k.hand x ≡ k.hand q) p ps a))
+        ∙ ap (λ (z : Handler). pause (paths c.setting d (tree_of c p) s (past c d k p) f z))
+        (sym (All-head (λ x. k.hand x ≡ k.hand q) p ps a))
 
   reaching_not : (s : State) (x : Moves) → reaching c.setting false s x ≡ x
   unfolding reaching
   reaching_not s x = refl
 
   ref_first : (ns : List ℕ) (caseless : Bool) (s : State) (k : Follow) (f : Moves) →
-      ref_path c.setting ns caseless s k f ≡ reaching c.setting (referred_reaches c s.place (first_set s.caps ns) caseless) s
+      ref_path c.setting ns caseless s k f ≡ reaching c.setting
+      (referred_reaches c s.place (first_set s.caps ns) caseless) s
       (elim (first_set s.caps ns) [
         | None ↦ elim c.setting.options.match_unset_backref [ true ↦ k reached s f | false ↦ f ]
         | Some span ↦ going (after_ref c.setting.scene span.from span.to caseless s.place) s k f
@@ -149,7 +172,8 @@ module _ (c : Ground) where
             reaching c.setting (ref_reaches c.setting.scene span.from span.to caseless s.place) s
             (going (after_ref c.setting.scene span.from span.to caseless s.place) s k f)
       ]
-      ≡ reaching c.setting (referred_reaches c s.place (let z : Option Span = elim o [ None ↦ first_set s.caps ns | Some span ↦ Some span ] in z) caseless) s
+      ≡ reaching c.setting (referred_reaches c s.place
+      (let z : Option Span = elim o [ None ↦ first_set s.caps ns | Some span ↦ Some span ] in z) caseless) s
       (elim (let z : Option Span = elim o [ None ↦ first_set s.caps ns | Some span ↦ Some span ] in z) [
         | None ↦ elim c.setting.options.match_unset_backref [ true ↦ k reached s f | false ↦ f ]
         | Some span ↦ going (after_ref c.setting.scene span.from span.to caseless s.place) s k f
@@ -158,7 +182,8 @@ module _ (c : Ground) where
         | Some span ↦ refl
       ]
 
-  in_row_kids : (t : Nested) (d : ℕ) (ks : List ℕ) → in_row (branch_path c t d) (row (map (tree_at c.trees) ks)) ≡ kid_paths c t d ks
+  in_row_kids : (t : Nested) (d : ℕ) (ks : List ℕ) → in_row (branch_path c t d)
+      (row (map (tree_at c.trees) ks)) ≡ kid_paths c t d ks
   in_row_kids t d [] = refl
   in_row_kids t d (q ∷ ks) = ap (λ ps. branch_path c t d (tree_of c q) ∷ ps) (in_row_kids t d ks)
 
@@ -193,20 +218,29 @@ module _ (c : Ground) where
   try_begun p s k f h (x ∷ y ∷ more) le = absurd (omega (arith, le))
 
   -- of one length, it begins so far before the place
-  behind_begun : (a : SomeLengths) → branch_fault a ≡ None → (p : Path) (s : State) (k : Follow) (f : Moves) (h : Handler) →
+  behind_begun : (a : SomeLengths) → branch_fault a ≡ None
+      → (p : Path) (s : State) (k : Follow) (f : Moves) (h : Handler) →
       begun_path true (begun_by c a s.place) p s k f h ≡ behind_path c.setting a p s k f h
   unfolding behind_path
   behind_begun a e p s k f h =
       let one = one_length a e in
       let n : ℕ = one.0 in
       let before : List ℕ = drop n (places_back c.setting.scene n s.place) in
-      subst (λ (x : SomeLengths). begun_path true (begun_by c x s.place) p s k f h ≡ behind_path c.setting x p s k f h) (sym one.1)
+      subst (λ (x : SomeLengths). begun_path true (begun_by c x s.place) p s k f h ≡ behind_path c.setting x p s k f
+      h) (sym one.1)
       (try_begun p s k f h before (one_place c.setting.scene n s.place)
-      ∙ ap (λ (b : Bool). elim b [ true ↦ try_path (reverse before) p s k f h | false ↦ tries_path c.setting (reverse before) p s k f h ]) (sym (eq-eqb n n refl)))
+      ∙ ap (λ (b : Bool). elim b [
+        | true ↦ try_path (reverse before) p s k f h
+        | false ↦
+            tries_path c.setting (reverse before) p s k f h
+      ]) (sym (eq-eqb n n refl)))
 
-  begun_kid : (t : Nested) (p : ℕ) → (is_behind t ≡ true → IsFixedPart c p) → (d : ℕ) (s : State) (k : Follow) (f : Moves) (h : Handler) →
-      begun_path (is_behind t) (begun_place c p s.place) (paths c.setting d (tree_of c p)) s k f h ≡ branch_path c t d (tree_of c p) s k f h
-  begun_kid (tree.look false positive once ts) p fixed d s k f h = behind_begun (branch_lengths c.setting (tree_of c p)) (fixed refl) (paths c.setting d (tree_of c p)) s k f h
+  begun_kid : (t : Nested) (p : ℕ) → (is_behind t ≡ true → IsFixedPart c p)
+      → (d : ℕ) (s : State) (k : Follow) (f : Moves) (h : Handler) →
+      begun_path (is_behind t) (begun_place c p s.place) (paths c.setting d (tree_of c p)) s k f h ≡ branch_path c t d
+      (tree_of c p) s k f h
+  begun_kid (tree.look false positive once ts) p fixed d s k f h =
+      behind_begun (branch_lengths c.setting (tree_of c p)) (fixed refl) (paths c.setting d (tree_of c p)) s k f h
   begun_kid (tree.look true positive once ts) p fixed d s k f h = refl
   begun_kid _ p fixed d s k f h = refl
 
@@ -216,21 +250,25 @@ module _ (c : Ground) where
   begun_state true (Some place) s = begun_at place s
 
   begun_focus : (b : Bool) (to : Option ℕ) (p d : ℕ) (k : Outside) (s : State) (f : Moves) →
-      focus c (begun_next b to p) d k (begun_state b to s) f ≡ begun_path b to (paths c.setting d (tree_of c p)) s (after c d k (c.rest p)) f (k.hand p)
+      focus c (begun_next b to p) d k (begun_state b to s) f ≡ begun_path b to (paths c.setting d (tree_of c p)) s
+      (after c d k (c.rest p)) f (k.hand p)
   begun_focus false to p d k s f = refl
   begun_focus true None p d k s f = refl
   begun_focus true (Some place) p d k s f = refl
 
   -- a branch that is begun, with what follows the branches of its part
-  pub begun_is : (q p : ℕ) → (is_behind (tree_of c q) ≡ true → IsFixedPart c p) → c.rest p ≡ branch_rest c (tree_of c q) (c.rest q) →
+  pub begun_is : (q p : ℕ) → (is_behind (tree_of c q) ≡ true → IsFixedPart c p)
+      → c.rest p ≡ branch_rest c (tree_of c q) (c.rest q) →
       (d : ℕ) (k : Outside) (h : Handler) → k.hand p ≡ h → (s : State) (f : Moves) →
-      focus c (begun_next (is_behind (tree_of c q)) (begun_place c p s.place) p) d k (begun_state (is_behind (tree_of c q)) (begun_place c p s.place) s) f
+      focus c (begun_next (is_behind (tree_of c q)) (begun_place c p s.place) p) d k
+      (begun_state (is_behind (tree_of c q)) (begun_place c p s.place) s) f
       ≡ branch_path c (tree_of c q) d (tree_of c p) s (after c d k (branch_rest c (tree_of c q) (c.rest q))) f h
   begun_is q p fixed linked d k h same s f =
       begun_focus (is_behind (tree_of c q)) (begun_place c p s.place) p d k s f
       ∙ begun_kid (tree_of c q) p fixed d s (after c d k (c.rest p)) f (k.hand p)
       ∙ ap (λ (r : List ℕ). branch_path c (tree_of c q) d (tree_of c p) s (after c d k r) f (k.hand p)) linked
-      ∙ ap (λ (z : Handler). branch_path c (tree_of c q) d (tree_of c p) s (after c d k (branch_rest c (tree_of c q) (c.rest q))) f z) same
+      ∙ ap (λ (z : Handler). branch_path c (tree_of c q) d (tree_of c p) s
+      (after c d k (branch_rest c (tree_of c q) (c.rest q))) f z) same
 
   abbrev pub first_state : Bool → List ℕ → State → State
   first_state b [] s = s
@@ -244,12 +282,18 @@ module _ (c : Ground) where
     pub commit : h commit ≡ j commit
 
   pub agreed : (h j : Handler) → h ≡ j → IsAgreed h j
-  agreed h j e = record { prune = ap (λ (z : Handler). z prune) e; skip = λ n. ap (λ (z : Handler). z (skip n)) e; commit = ap (λ (z : Handler). z commit) e }
+  agreed h j e = record {
+    prune = ap (λ (z : Handler). z prune) e;
+    skip = λ n. ap (λ (z : Handler). z (skip n)) e;
+    commit = ap (λ (z : Handler). z commit) e;
+  }
 
   pub catching_same : (f : Moves) (h j : Handler) → IsAgreed h j → catching f h ≡ catching f j
-  catching_same f h j r = fun_ext (elim [ next_branch ↦ refl | prune ↦ r.prune | skip n ↦ r.skip n | commit ↦ r.commit ])
+  catching_same f h j r =
+      fun_ext (elim [ next_branch ↦ refl | prune ↦ r.prune | skip n ↦ r.skip n | commit ↦ r.commit ])
 
-  choices_same : (ps : List Path) (s : State) (k : Follow) (f : Moves) (h j : Handler) → IsAgreed h j → choice_paths c.setting ps s k f h ≡ choice_paths c.setting ps s k f j
+  choices_same : (ps : List Path) (s : State) (k : Follow) (f : Moves) (h j : Handler) → IsAgreed h j
+      → choice_paths c.setting ps s k f h ≡ choice_paths c.setting ps s k f j
   unfolding choice_paths
   choices_same [] s k f h j r = refl
   choices_same (p ∷ []) s k f h j r = ap (λ (z : Handler). stepped (p s k f z)) (catching_same f h j r)
@@ -266,16 +310,20 @@ module _ (c : Ground) where
   Alone k _ h = Unit {0}
 
   -- where the branches begin
-  pub first_branch : (q d : ℕ) (ks : List ℕ) → IsBranched c q ks → (k : Outside) (h : Handler) → Alone k ks h → IsAgreed h (k.hand q) → (s : State) (f : Moves) →
+  pub first_branch : (q d : ℕ) (ks : List ℕ) → IsBranched c q ks → (k : Outside) (h : Handler) → Alone k ks h
+      → IsAgreed h (k.hand q) → (s : State) (f : Moves) →
       focus c (first_begun c (is_behind (tree_of c q)) q ks s.place) d k (first_state (is_behind (tree_of c q)) ks s) f
-      ≡ branch_paths c.setting (kid_paths c (tree_of c q) d ks) s (after c d k (branch_rest c (tree_of c q) (c.rest q))) f h
+      ≡ branch_paths c.setting (kid_paths c (tree_of c q) d ks) s
+      (after c d k (branch_rest c (tree_of c q) (c.rest q))) f h
   unfolding branch_paths
   first_branch q d [] b k h a r s f = refl
   first_branch q d (p ∷ []) b k h a r s f =
-      begun_is q p (λ e. All-head (IsFixedPart c) p [] (b.fixed e)) (All-head (λ x. c.rest x ≡ branch_rest c (tree_of c q) (c.rest q)) p [] b.linked) d k h a s f
+      begun_is q p (λ e. All-head (IsFixedPart c) p [] (b.fixed e))
+      (All-head (λ x. c.rest x ≡ branch_rest c (tree_of c q) (c.rest q)) p [] b.linked) d k h a s f
   first_branch q d (p ∷ p' ∷ ps) b k h a r s f =
       branch_is q 0 d (p ∷ p' ∷ ps) b s (after c d k (branch_rest c (tree_of c q) (c.rest q))) f (k.hand q)
-      ∙ sym (choices_same (kid_paths c (tree_of c q) d (p ∷ p' ∷ ps)) s (after c d k (branch_rest c (tree_of c q) (c.rest q))) f h (k.hand q) r)
+      ∙ sym (choices_same (kid_paths c (tree_of c q) d (p ∷ p' ∷ ps)) s
+      (after c d k (branch_rest c (tree_of c q) (c.rest q))) f h (k.hand q) r)
 
   -- where they begin at the place itself
   pub first_plain : (q : ℕ) (ks : List ℕ) (place : ℕ) → first_begun c false q ks place ≡ first_next q ks
@@ -288,7 +336,8 @@ module _ (c : Ground) where
   state_plain (p ∷ []) s = refl
   state_plain (p ∷ p' ∷ ps) s = refl
 
-  pub first_here : (q d : ℕ) (ks : List ℕ) → IsBranched c q ks → (k : Outside) (h : Handler) → Alone k ks h → IsAgreed h (k.hand q) → (s : State) (f : Moves) → is_behind (tree_of c q) ≡ false →
+  pub first_here : (q d : ℕ) (ks : List ℕ) → IsBranched c q ks → (k : Outside) (h : Handler) → Alone k ks h
+      → IsAgreed h (k.hand q) → (s : State) (f : Moves) → is_behind (tree_of c q) ≡ false →
       focus c (first_next q ks) d k s f
       ≡ branch_paths c.setting (part_paths c d ks) s (after c d k (branch_rest c (tree_of c q) (c.rest q))) f h
   first_here q d ks b k h a r s f plain =
@@ -296,7 +345,8 @@ module _ (c : Ground) where
       ∙ sym (ap (λ u. focus c (first_begun c false q ks s.place) d k u f) (state_plain ks s))
       ∙ sym (ap (λ (x : Bool). focus c (first_begun c x q ks s.place) d k (first_state x ks s) f) plain)
       ∙ first_branch q d ks b k h a r s f
-      ∙ ap (λ (xs : List Path). branch_paths c.setting xs s (after c d k (branch_rest c (tree_of c q) (c.rest q))) f h) (plain_kids (tree_of c q) plain d ks)
+      ∙ ap (λ (xs : List Path). branch_paths c.setting xs s (after c d k (branch_rest c (tree_of c q) (c.rest q))) f
+      h) (plain_kids (tree_of c q) plain d ks)
 
   none_some : (p : ℕ) → None ≡ Some p → ⊥
   none_some p e = cc
@@ -318,37 +368,47 @@ module _ (c : Ground) where
   pub branches_in : (q d : ℕ) (ks : List ℕ) → IsBranched c q ks → branch_rest c (tree_of c q) (c.rest q) ≡ [] →
       (k : Outside) (h : Handler) → Alone k ks h → IsAgreed h (k.hand q) → (s : State) (f : Moves) →
       branch_paths c.setting (kid_paths c (tree_of c q) d ks) s k.follow f h
-      ≡ focus c (first_begun c (is_behind (tree_of c q)) q ks s.place) d k (first_state (is_behind (tree_of c q)) ks s) f
+      ≡ focus c (first_begun c (is_behind (tree_of c q)) q ks s.place) d k
+      (first_state (is_behind (tree_of c q)) ks s) f
   branches_in q d ks b none k h a r s f =
-      ap (λ (z : Follow). branch_paths c.setting (kid_paths c (tree_of c q) d ks) s z f h) (sym (after_nil d k) ∙ ap (after c d k) (sym none))
+      ap (λ (z : Follow). branch_paths c.setting (kid_paths c (tree_of c q) d ks) s z f h)
+      (sym (after_nil d k) ∙ ap (after c d k) (sym none))
       ∙ sym (first_branch q d ks b k h a r s f)
 
   -- one branch of a part
-  module _ (q i d : ℕ) (ks : List ℕ) (b : IsBranched c q ks) (p : ℕ) (at : slice_get ks i ≡ Some p) (s : State) (k : Outside) (f : Moves) where
+  module _ (q i d : ℕ) (ks : List ℕ) (b : IsBranched c q ks) (p : ℕ) (at : slice_get ks i ≡ Some p) (s : State)
+      (k : Outside) (f : Moves) where
     abbrev K : Follow
     K = after c d k (branch_rest c (tree_of c q) (c.rest q))
 
     choice_at : focus c (Branch q i) d k s f
-        ≡ choice_paths c.setting (branch_path c (tree_of c q) d (tree_of c p) ∷ kid_paths c (tree_of c q) d (drop (suc i) ks)) s K f (k.hand q)
+        ≡ choice_paths c.setting (branch_path c (tree_of c q) d (tree_of c p) ∷ kid_paths c (tree_of c q) d
+        (drop (suc i) ks)) s K f (k.hand q)
     choice_at =
         branch_is q i d ks b s K f (k.hand q)
         ∙ ap (λ (xs : List Path). choice_paths c.setting xs s K f (k.hand q))
-        (drop-map (λ x. branch_path c (tree_of c q) d (tree_of c x)) i ks ∙ ap (kid_paths c (tree_of c q) d) (drop_here ks i p at))
+        (drop-map (λ x. branch_path c (tree_of c q) d (tree_of c x)) i ks
+        ∙ ap (kid_paths c (tree_of c q) d) (drop_here ks i p at))
 
     -- what is around it when it is begun, by then
-    pub branch_begun : (now : Outside) → after c d now (branch_rest c (tree_of c q) (c.rest q)) ≡ K → (u : State) (m : Moves) → now.hand p ≡ catching m (k.hand q) →
+    pub branch_begun : (now : Outside) → after c d now (branch_rest c (tree_of c q) (c.rest q)) ≡ K
+        → (u : State) (m : Moves) → now.hand p ≡ catching m (k.hand q) →
         branch_path c (tree_of c q) d (tree_of c p) u K m (catching m (k.hand q))
-        ≡ focus c (begun_next (is_behind (tree_of c q)) (begun_place c p u.place) p) d now (begun_state (is_behind (tree_of c q)) (begun_place c p u.place) u) m
+        ≡ focus c (begun_next (is_behind (tree_of c q)) (begun_place c p u.place) p) d now
+        (begun_state (is_behind (tree_of c q)) (begun_place c p u.place) u) m
     branch_begun now rest u m same =
         ap (λ (z : Follow). branch_path c (tree_of c q) d (tree_of c p) u z m (catching m (k.hand q))) (sym rest)
-        ∙ sym (begun_is q p (λ e. All-at (IsFixedPart c) ks i p (b.fixed e) at) (All-at (λ x. c.rest x ≡ branch_rest c (tree_of c q) (c.rest q)) ks i p b.linked at)
+        ∙ sym (begun_is q p (λ e. All-at (IsFixedPart c) ks i p (b.fixed e) at)
+        (All-at (λ x. c.rest x ≡ branch_rest c (tree_of c q) (c.rest q)) ks i p b.linked at)
         d now (catching m (k.hand q)) same u m)
 
-    pub branch_last : length ks ≤ suc i → focus c (Branch q i) d k s f ≡ stepped (branch_path c (tree_of c q) d (tree_of c p) s K f (catching f (k.hand q)))
+    pub branch_last : length ks ≤ suc i → focus c (Branch q i) d k s f ≡ stepped
+        (branch_path c (tree_of c q) d (tree_of c p) s K f (catching f (k.hand q)))
     unfolding choice_paths
     branch_last e =
         choice_at
-        ∙ ap (λ (xs : List ℕ). choice_paths c.setting (branch_path c (tree_of c q) d (tree_of c p) ∷ kid_paths c (tree_of c q) d xs) s K f (k.hand q))
+        ∙ ap (λ (xs : List ℕ). choice_paths c.setting
+        (branch_path c (tree_of c q) d (tree_of c p) ∷ kid_paths c (tree_of c q) d xs) s K f (k.hand q))
         (drop_of_length-le ks e)
 
     -- what is left where the branch fails
@@ -356,26 +416,36 @@ module _ (c : Ground) where
     later = pause (focus c (Branch q (suc i)) d k s f)
 
     pub branch_more : (p' : ℕ) → slice_get ks (suc i) ≡ Some p' →
-        focus c (Branch q i) d k s f ≡ stepped (holding c.setting 1 s (λ u. branch_path c (tree_of c q) d (tree_of c p) u K later (catching later (k.hand q))))
+        focus c (Branch q i) d k s f ≡ stepped
+        (holding c.setting 1 s (λ u. branch_path c (tree_of c q) d (tree_of c p) u K later
+        (catching later (k.hand q))))
     unfolding choice_paths
     branch_more p' at' =
         let rest : drop (suc i) ks ≡ p' ∷ drop (suc (suc i)) ks = drop_here ks (suc i) p' at' in
-        let left : Moves = pause (choice_paths c.setting (kid_paths c (tree_of c q) d (p' ∷ drop (suc (suc i)) ks)) s K f (k.hand q)) in
+        let left : Moves = pause (choice_paths c.setting (kid_paths c (tree_of c q) d (p' ∷ drop (suc (suc i)) ks)) s
+        K f (k.hand q)) in
         let same : left ≡ later =
-        ap (λ (xs : List ℕ). pause (choice_paths c.setting (kid_paths c (tree_of c q) d xs) s K f (k.hand q))) (sym rest)
-        ∙ ap (λ (xs : List Path). pause (choice_paths c.setting xs s K f (k.hand q))) (sym (drop-map (λ x. branch_path c (tree_of c q) d (tree_of c x)) (suc i) ks))
+        ap (λ (xs : List ℕ). pause (choice_paths c.setting (kid_paths c (tree_of c q) d xs) s K f (k.hand q)))
+        (sym rest)
+        ∙ ap (λ (xs : List Path). pause (choice_paths c.setting xs s K f (k.hand q)))
+        (sym (drop-map (λ x. branch_path c (tree_of c q) d (tree_of c x)) (suc i) ks))
         ∙ ap pause (sym (branch_is q (suc i) d ks b s K f (k.hand q))) in
         choice_at
-        ∙ ap (λ (xs : List ℕ). choice_paths c.setting (branch_path c (tree_of c q) d (tree_of c p) ∷ kid_paths c (tree_of c q) d xs) s K f (k.hand q)) rest
-        ∙ ap (λ (m : Moves). stepped (holding c.setting 1 s (λ u. branch_path c (tree_of c q) d (tree_of c p) u K m (catching m (k.hand q))))) same
+        ∙ ap (λ (xs : List ℕ). choice_paths c.setting
+        (branch_path c (tree_of c q) d (tree_of c p) ∷ kid_paths c (tree_of c q) d xs) s K f (k.hand q)) rest
+        ∙ ap (λ (m : Moves). stepped
+        (holding c.setting 1 s (λ u. branch_path c (tree_of c q) d (tree_of c p) u K m
+        (catching m (k.hand q))))) same
 
   -- the branches of a part, by its node
   module _ (q : ℕ) (n : Node) (i : IsNode c q n) where
     pub tree_by : (m : Node) → n ≡ m → nest c.trees m ≡ tree_of c q
     tree_by m e = subst (λ z. nest c.trees z ≡ tree_of c q) e i.is
 
-    branched : (ks r : List ℕ) (t : Nested) → t ≡ tree_of c q → branch_row c t ≡ row (map (tree_at c.trees) ks) → branch_rest c t (c.rest q) ≡ r →
-        (is_behind t ≡ true → All (IsFixedPart c) ks) → AllFollowed c.rest r ks → (o : Option ℕ) → All (λ k. c.branch k ≡ branch_if ks o k) ks → kids_of n ≡ ks → IsBranched c q ks
+    branched : (ks r : List ℕ) (t : Nested) → t ≡ tree_of c q → branch_row c t ≡ row (map (tree_at c.trees) ks)
+        → branch_rest c t (c.rest q) ≡ r →
+        (is_behind t ≡ true → All (IsFixedPart c) ks) → AllFollowed c.rest r ks → (o : Option ℕ)
+        → All (λ k. c.branch k ≡ branch_if ks o k) ks → kids_of n ≡ ks → IsBranched c q ks
     branched ks r t is rows rest fixed l o own kids = record {
       rows = ap (branch_row c) (sym is) ∙ rows;
       linked = subst (λ x. AllFollowed c.rest x ks) (sym rest ∙ ap (λ x. branch_rest c x (c.rest q)) is) l;
@@ -391,41 +461,55 @@ module _ (c : Ground) where
 
     pub branched_group : (number : Option ℕ) (ks : List ℕ) → n ≡ node.Group number ks → IsBranched c q ks
     branched_group None ks e =
-        branched ks (c.rest q) (tree.group None (row (map (tree_at c.trees) ks))) (tree_by (node.Group None ks) e) refl refl (λ z. absurd (false≢true z))
+        branched ks (c.rest q) (tree.group None (row (map (tree_at c.trees) ks))) (tree_by (node.Group None ks) e)
+        refl refl (λ z. absurd (false≢true z))
         (subst (IsLinked c.rest (c.rest q)) e i.linked) (c.branch q) (branches_by (node.Group None ks) e) (ap kids_of e)
     branched_group (Some m) ks e =
-        branched ks [] (tree.group (Some m) (row (map (tree_at c.trees) ks))) (tree_by (node.Group (Some m) ks) e) refl refl (λ z. absurd (false≢true z))
+        branched ks [] (tree.group (Some m) (row (map (tree_at c.trees) ks))) (tree_by (node.Group (Some m) ks) e)
+        refl refl (λ z. absurd (false≢true z))
         (subst (IsLinked c.rest (c.rest q)) e i.linked) None (branches_by (node.Group (Some m) ks) e) (ap kids_of e)
 
     pub branched_atomic : (ks : List ℕ) → n ≡ node.Atomic ks → IsBranched c q ks
     branched_atomic ks e =
-        branched ks [] (tree.atomic (row (map (tree_at c.trees) ks))) (tree_by (node.Atomic ks) e) refl refl (λ z. absurd (false≢true z))
+        branched ks [] (tree.atomic (row (map (tree_at c.trees) ks))) (tree_by (node.Atomic ks) e) refl refl
+        (λ z. absurd (false≢true z))
         (subst (IsLinked c.rest (c.rest q)) e i.linked) None (branches_by (node.Atomic ks) e) (ap kids_of e)
 
     -- the branches of a lookbehind have one length each
-    fixed_row : (ks : List ℕ) → AreFixed (branch_lengths c.setting) (row (map (tree_at c.trees) ks)) → All (IsFixedPart c) ks
+    fixed_row : (ks : List ℕ) → AreFixed (branch_lengths c.setting) (row (map (tree_at c.trees) ks))
+        → All (IsFixedPart c) ks
     fixed_row [] a = All-nil (IsFixedPart c)
     fixed_row (k ∷ ks) a = All-cons (IsFixedPart c) k ks a.0 (fixed_row ks a.1)
 
     fixed_here : IsPart c q → HasFixed (branch_lengths c.setting) (nest c.trees n)
-    fixed_here part = let P : Nested → Type 0 = HasFixed (branch_lengths c.setting) in all_here P c.trees n i.tests (subst (IsMeasuredIn c) (sym i.is) part.measured)
+    fixed_here part = let P : Nested → Type 0 = HasFixed (branch_lengths c.setting) in
+        all_here P c.trees n i.tests (subst (IsMeasuredIn c) (sym i.is) part.measured)
 
-    pub fixed_look : IsPart c q → (ahead positive once : Bool) (ks : List ℕ) → n ≡ node.Look ahead positive once ks → not ahead ≡ true → All (IsFixedPart c) ks
+    pub fixed_look : IsPart c q → (ahead positive once : Bool) (ks : List ℕ) → n ≡ node.Look ahead positive once ks
+        → not ahead ≡ true → All (IsFixedPart c) ks
     fixed_look part true positive once ks e behind = absurd (false≢true behind)
-    fixed_look part false positive once ks e behind = fixed_row ks (subst (λ m. HasFixed (branch_lengths c.setting) (nest c.trees m)) e (fixed_here part))
+    fixed_look part false positive once ks e behind =
+        fixed_row ks (subst (λ m. HasFixed (branch_lengths c.setting) (nest c.trees m)) e (fixed_here part))
 
-    pub branched_look : IsPart c q → (ahead positive once : Bool) (ks : List ℕ) → n ≡ node.Look ahead positive once ks → IsBranched c q ks
+    pub branched_look : IsPart c q → (ahead positive once : Bool) (ks : List ℕ) → n ≡ node.Look ahead positive once ks
+        → IsBranched c q ks
     branched_look part ahead positive once ks e =
-        branched ks [] (tree.look ahead positive once (row (map (tree_at c.trees) ks))) (tree_by (node.Look ahead positive once ks) e) refl refl (fixed_look part ahead positive once ks e)
-        (subst (IsLinked c.rest (c.rest q)) e i.linked) None (branches_by (node.Look ahead positive once ks) e) (ap kids_of e)
+        branched ks [] (tree.look ahead positive once (row (map (tree_at c.trees) ks)))
+        (tree_by (node.Look ahead positive once ks) e) refl refl (fixed_look part ahead positive once ks e)
+        (subst (IsLinked c.rest (c.rest q)) e i.linked) None (branches_by (node.Look ahead positive once ks) e)
+        (ap kids_of e)
 
-    pub behind_look : (ahead positive once : Bool) (ks : List ℕ) → n ≡ node.Look ahead positive once ks → is_behind (tree_of c q) ≡ not ahead
+    pub behind_look : (ahead positive once : Bool) (ks : List ℕ) → n ≡ node.Look ahead positive once ks
+        → is_behind (tree_of c q) ≡ not ahead
     behind_look ahead positive once ks e = ap is_behind (sym (tree_by (node.Look ahead positive once ks) e))
 
-    pub behind_none : ((ahead positive once : Bool) (ks : List ℕ) → n ≡ node.Look ahead positive once ks → ⊥) → is_behind (tree_of c q) ≡ false
+    pub behind_none : ((ahead positive once : Bool) (ks : List ℕ) → n ≡ node.Look ahead positive once ks → ⊥)
+        → is_behind (tree_of c q) ≡ false
     behind_none stray = ap is_behind (sym i.is) ∙ none_behind n stray
       where
-        none_behind : (m : Node) → ((ahead positive once : Bool) (ks : List ℕ) → m ≡ node.Look ahead positive once ks → ⊥) → is_behind (nest c.trees m) ≡ false
+        none_behind : (m : Node)
+            → ((ahead positive once : Bool) (ks : List ℕ) → m ≡ node.Look ahead positive once ks → ⊥)
+            → is_behind (nest c.trees m) ≡ false
         none_behind (node.Look ahead positive once ks) x = absurd (x ahead positive once ks refl)
         none_behind _ x = refl
 
@@ -435,22 +519,29 @@ module _ (c : Ground) where
   look_paths false z ts = behind_paths c.setting z (paths c.setting z) ts
 
   behind_parts : (z : ℕ) (ks : List ℕ) (positive once : Bool) (ts : Row) →
-      behind_paths c.setting z (paths c.setting z) (row (map (tree_at c.trees) ks)) ≡ kid_paths c (tree.look false positive once ts) (suc z) ks
+      behind_paths c.setting z (paths c.setting z) (row (map (tree_at c.trees) ks)) ≡ kid_paths c
+      (tree.look false positive once ts) (suc z) ks
   unfolding path paths
   behind_parts z [] positive once ts = refl
   behind_parts z (q ∷ ks) positive once ts =
-      ap (λ ps. behind_path c.setting (branch_lengths c.setting (tree_of c q)) (paths c.setting (suc z) (tree_of c q)) ∷ ps) (behind_parts z ks positive once ts)
+      ap (λ ps. behind_path c.setting (branch_lengths c.setting (tree_of c q))
+      (paths c.setting (suc z) (tree_of c q)) ∷ ps) (behind_parts z ks positive once ts)
 
-  look_row : (d z : ℕ) → d ≡ suc z → (ahead positive once : Bool) (ks : List ℕ) (t : Nested) → tree.look ahead positive once (row (map (tree_at c.trees) ks)) ≡ t →
+  look_row : (d z : ℕ) → d ≡ suc z → (ahead positive once : Bool) (ks : List ℕ) (t : Nested)
+      → tree.look ahead positive once (row (map (tree_at c.trees) ks)) ≡ t →
       look_paths ahead z (row (map (tree_at c.trees) ks)) ≡ kid_paths c t d ks
   look_row d z deep true positive once ks t e = row_deep d z ks deep ∙ sym (plain_kids t (ap is_behind (sym e)) d ks)
   look_row d z deep false positive once ks t e =
-      behind_parts z ks positive once (row (map (tree_at c.trees) ks)) ∙ ap (λ u. kid_paths c u (suc z) ks) e ∙ ap (λ x. kid_paths c t x ks) (sym deep)
+      behind_parts z ks positive once (row (map (tree_at c.trees) ks)) ∙ ap (λ u. kid_paths c u (suc z) ks) e
+      ∙ ap (λ x. kid_paths c t x ks) (sym deep)
 
   -- a part with what follows it, continued
-  module _ (ok : IsGround c) (q : ℕ) (n : Node) (i : IsNode c q n) (d z : ℕ) (k : Outside) (s : State) (f : Moves) (deep : d ≡ suc z) where
-    by_node : (m : Node) → n ≡ m → enter c d k q s f ≡ path c.setting z (paths c.setting z) (nest c.trees m) s (past c d k q) f (k.hand q)
-    by_node m e = enter_node q n i d z k s f deep ∙ ap (λ x. path c.setting z (paths c.setting z) (nest c.trees x) s (past c d k q) f (k.hand q)) e
+  module _ (ok : IsGround c) (q : ℕ) (n : Node) (i : IsNode c q n) (d z : ℕ) (k : Outside) (s : State) (f : Moves)
+      (deep : d ≡ suc z) where
+    by_node : (m : Node) → n ≡ m → enter c d k q s f ≡ path c.setting z (paths c.setting z) (nest c.trees m) s
+        (past c d k q) f (k.hand q)
+    by_node m e = enter_node q n i d z k s f deep
+        ∙ ap (λ x. path c.setting z (paths c.setting z) (nest c.trees x) s (past c d k q) f (k.hand q)) e
 
     pub enter_empty : n ≡ node.Empty → enter c d k q s f ≡ pause (past c d k q reached s f)
     unfolding path
@@ -461,17 +552,20 @@ module _ (c : Ground) where
     enter_keep e = by_node node.KeepOut e
 
     pub enter_one : (item : Item) → n ≡ node.One item → enter c d k q s f
-        ≡ pause (reaching c.setting (item_reaches c.setting.scene item s.place) s (going (after_item c.setting.scene item s.place) s (past c d k q) f))
+        ≡ pause (reaching c.setting (item_reaches c.setting.scene item s.place) s
+        (going (after_item c.setting.scene item s.place) s (past c d k q) f))
     unfolding path
     enter_one item e = by_node (node.One item) e
 
     pub enter_break : n ≡ node.Break → enter c d k q s f
-        ≡ pause (reaching c.setting (break_reaches c.setting.scene s.place) s (going (after_break c.setting.scene s.place) s (past c d k q) f))
+        ≡ pause (reaching c.setting (break_reaches c.setting.scene s.place) s
+        (going (after_break c.setting.scene s.place) s (past c d k q) f))
     unfolding path
     enter_break e = by_node node.Break e
 
     pub enter_anchor : (kind : AnchorKind) → n ≡ node.Anchor kind → enter c d k q s f
-        ≡ pause (reaching c.setting (anchor_reaches c.setting.scene kind s.place) (record s { early = earliest c.setting.scene kind s.place s.early })
+        ≡ pause (reaching c.setting (anchor_reaches c.setting.scene kind s.place)
+        (record s { early = earliest c.setting.scene kind s.place s.early })
         (elim (holds c.setting.scene kind s.place) [
           | true ↦ past c d k q reached (record s { early = earliest c.setting.scene kind s.place s.early }) f
           | false ↦ f
@@ -488,97 +582,132 @@ module _ (c : Ground) where
     unfolding path
     enter_ref ns caseless e = by_node (node.Ref ns caseless) e ∙ ap pause (ref_first ns caseless s (past c d k q) f)
 
-    pub enter_group : (ks : List ℕ) → Alone k ks (k.hand q) → n ≡ node.Group None ks → enter c d k q s f ≡ pause (focus c (first_next q ks) d k s f)
+    pub enter_group : (ks : List ℕ) → Alone k ks (k.hand q) → n ≡ node.Group None ks
+        → enter c d k q s f ≡ pause (focus c (first_next q ks) d k s f)
     unfolding path
     enter_group ks a e =
         let t : tree.group None (row (map (tree_at c.trees) ks)) ≡ tree_of c q = tree_by q n i (node.Group None ks) e in
         by_node (node.Group None ks) e
-        ∙ ap (λ (xs : List Path). pause (branch_paths c.setting xs s (past c d k q) f (k.hand q))) (row_deep d z ks deep)
-        ∙ ap (λ (r : List ℕ). pause (branch_paths c.setting (part_paths c d ks) s (after c d k r) f (k.hand q))) (ap (λ z. branch_rest c z (c.rest q)) t)
-        ∙ ap pause (sym (first_here q d ks (branched_group q n i None ks e) k (k.hand q) a (agreed (k.hand q) (k.hand q) refl) s f (ap is_behind (sym t))))
+        ∙ ap (λ (xs : List Path). pause (branch_paths c.setting xs s (past c d k q) f (k.hand q)))
+        (row_deep d z ks deep)
+        ∙ ap (λ (r : List ℕ). pause (branch_paths c.setting (part_paths c d ks) s (after c d k r) f (k.hand q)))
+        (ap (λ z. branch_rest c z (c.rest q)) t)
+        ∙ ap pause (sym (first_here q d ks (branched_group q n i None ks e) k (k.hand q) a
+        (agreed (k.hand q) (k.hand q) refl) s f (ap is_behind (sym t))))
 
     pub enter_capture : (m : ℕ) (ks : List ℕ) → n ≡ node.Group (Some m) ks → enter c d k q s f
-        ≡ pause (holding c.setting 1 s (λ t. branch_paths c.setting (part_paths c d ks) t (close_from c (tree_of c q) s.place (past c d k q)) (pause f) (k.hand q)))
+        ≡ pause (holding c.setting 1 s (λ t. branch_paths c.setting (part_paths c d ks) t
+        (close_from c (tree_of c q) s.place (past c d k q)) (pause f) (k.hand q)))
     unfolding path
     enter_capture m ks e =
-        let t : tree.group (Some m) (row (map (tree_at c.trees) ks)) ≡ tree_of c q = tree_by q n i (node.Group (Some m) ks) e in
+        let t : tree.group (Some m) (row (map (tree_at c.trees) ks)) ≡ tree_of c q =
+        tree_by q n i (node.Group (Some m) ks) e in
         let K : Follow = close_from c (tree_of c q) s.place (past c d k q) in
-        let closes : (λ how u x. close c.setting m s.place how u (past c d k q) x) ≡ K = ap (λ z. close_from c z s.place (past c d k q)) t in
+        let closes : (λ how u x. close c.setting m s.place how u (past c d k q) x) ≡ K =
+        ap (λ z. close_from c z s.place (past c d k q)) t in
         by_node (node.Group (Some m) ks) e
         ∙ ap pause
         (holding_same c.setting 1 s _ _
         (λ u.
-        ap (λ (xs : List Path). branch_paths c.setting xs u (λ how v x. close c.setting m s.place how v (past c d k q) x) (pause f) (k.hand q)) (row_deep d z ks deep)
+        ap (λ (xs : List Path). branch_paths c.setting xs u
+        (λ how v x. close c.setting m s.place how v (past c d k q) x) (pause f) (k.hand q))
+        (row_deep d z ks deep)
         ∙ ap (λ (z : Follow). branch_paths c.setting (part_paths c d ks) u z (pause f) (k.hand q)) closes))
 
     -- an atomic group over this repeat of one item, or over none
-    atomic_row : (ks : List ℕ) → n ≡ node.Atomic ks → (o : Option Many) → only_many (row (map (tree_at c.trees) ks)) ≡ o → enter c d k q s f
-        ≡ atomic_over c.setting o (branch_paths c.setting (row_paths c.setting z (paths c.setting z) (row (map (tree_at c.trees) ks)))) s (past c d k q) f (k.hand q)
+    atomic_row : (ks : List ℕ) → n ≡ node.Atomic ks → (o : Option Many)
+        → only_many (row (map (tree_at c.trees) ks)) ≡ o → enter c d k q s f
+        ≡ atomic_over c.setting o
+        (branch_paths c.setting (row_paths c.setting z (paths c.setting z) (row (map (tree_at c.trees) ks)))) s
+        (past c d k q) f (k.hand q)
     unfolding path
     atomic_row ks e o only =
         by_node (node.Atomic ks) e
-        ∙ ap (λ (m : Option Many). atomic_over c.setting m (branch_paths c.setting (row_paths c.setting z (paths c.setting z) (row (map (tree_at c.trees) ks)))) s (past c d k q) f (k.hand q)) only
+        ∙ ap (λ (m : Option Many). atomic_over c.setting m
+        (branch_paths c.setting (row_paths c.setting z (paths c.setting z) (row (map (tree_at c.trees) ks)))) s
+        (past c d k q) f (k.hand q)) only
 
-    pub enter_possessive : (ks : List ℕ) → n ≡ node.Atomic ks → (m : Many) → only_many (row (map (tree_at c.trees) ks)) ≡ Some m → enter c d k q s f ≡ possessive_path c.setting m s (past c d k q) f (k.hand q)
+    pub enter_possessive : (ks : List ℕ) → n ≡ node.Atomic ks → (m : Many)
+        → only_many (row (map (tree_at c.trees) ks)) ≡ Some m
+        → enter c d k q s f ≡ possessive_path c.setting m s (past c d k q) f (k.hand q)
     enter_possessive ks e m only = atomic_row ks e (Some m) only
 
-    pub enter_atomic : (ks : List ℕ) → n ≡ node.Atomic ks → only_many (row (map (tree_at c.trees) ks)) ≡ None → enter c d k q s f
-        ≡ pause (holding c.setting 1 s (λ t. branch_paths c.setting (part_paths c d ks) t (λ how u e. leave c.setting s how u (past c d k q) f) (pause f) (k.hand q)))
+    pub enter_atomic : (ks : List ℕ) → n ≡ node.Atomic ks → only_many (row (map (tree_at c.trees) ks)) ≡ None
+        → enter c d k q s f
+        ≡ pause (holding c.setting 1 s (λ t. branch_paths c.setting (part_paths c d ks) t
+        (λ how u e. leave c.setting s how u (past c d k q) f) (pause f) (k.hand q)))
     enter_atomic ks e none =
         atomic_row ks e None none
-        ∙ ap (λ (xs : List Path). pause (holding c.setting 1 s (λ t. branch_paths c.setting xs t (λ how u e. leave c.setting s how u (past c d k q) f) (pause f) (k.hand q)))) (row_deep d z ks deep)
+        ∙ ap (λ (xs : List Path). pause
+        (holding c.setting 1 s (λ t. branch_paths c.setting xs t
+        (λ how u e. leave c.setting s how u (past c d k q) f) (pause f) (k.hand q)))) (row_deep d z ks deep)
 
     -- the branches of a lookaround
-    look_kids : (ahead positive once : Bool) (ks : List ℕ) (t : Nested) → tree.look ahead positive once (row (map (tree_at c.trees) ks)) ≡ t →
-        path c.setting z (paths c.setting z) (tree.look ahead positive once (row (map (tree_at c.trees) ks))) s (past c d k q) f (k.hand q)
+    look_kids : (ahead positive once : Bool) (ks : List ℕ) (t : Nested)
+        → tree.look ahead positive once (row (map (tree_at c.trees) ks)) ≡ t →
+        path c.setting z (paths c.setting z) (tree.look ahead positive once (row (map (tree_at c.trees) ks))) s
+        (past c d k q) f (k.hand q)
         ≡ look_path c.setting positive once (branch_paths c.setting (kid_paths c t d ks)) s (past c d k q) f (k.hand q)
     unfolding path
     look_kids true positive once ks t e =
-        ap (λ (xs : List Path). look_path c.setting positive once (branch_paths c.setting xs) s (past c d k q) f (k.hand q)) (look_row d z deep true positive once ks t e)
+        ap (λ (xs : List Path). look_path c.setting positive once (branch_paths c.setting xs) s (past c d k q) f
+        (k.hand q)) (look_row d z deep true positive once ks t e)
     look_kids false positive once ks t e =
-        ap (λ (xs : List Path). look_path c.setting positive once (branch_paths c.setting xs) s (past c d k q) f (k.hand q)) (look_row d z deep false positive once ks t e)
+        ap (λ (xs : List Path). look_path c.setting positive once (branch_paths c.setting xs) s (past c d k q) f
+        (k.hand q)) (look_row d z deep false positive once ks t e)
 
     -- a lookaround
-    pub enter_look : (ahead positive once : Bool) (ks : List ℕ) → n ≡ node.Look ahead positive once ks → enter c d k q s f
-        ≡ look_path c.setting positive once (branch_paths c.setting (kid_paths c (tree_of c q) d ks)) s (past c d k q) f (k.hand q)
+    pub enter_look : (ahead positive once : Bool) (ks : List ℕ) → n ≡ node.Look ahead positive once ks
+        → enter c d k q s f
+        ≡ look_path c.setting positive once (branch_paths c.setting (kid_paths c (tree_of c q) d ks)) s (past c d k q)
+        f (k.hand q)
     enter_look ahead positive once ks e =
-        by_node (node.Look ahead positive once ks) e ∙ look_kids ahead positive once ks (tree_of c q) (tree_by q n i (node.Look ahead positive once ks) e)
+        by_node (node.Look ahead positive once ks) e ∙ look_kids ahead positive once ks (tree_of c q)
+        (tree_by q n i (node.Look ahead positive once ks) e)
 
     -- a call
-    pub enter_call : (m : ℕ) → n ≡ node.Call m → enter c d k q s f ≡ call_path c.setting (paths c.setting z) m s (past c d k q) f (k.hand q)
+    pub enter_call : (m : ℕ) → n ≡ node.Call m → enter c d k q s f ≡ call_path c.setting (paths c.setting z) m s
+        (past c d k q) f (k.hand q)
     unfolding path
     enter_call m e = by_node (node.Call m) e
 
-    pub enter_verb : (v : Verb) → n ≡ node.VerbNode v → enter c d k q s f ≡ pause (verb_path c.setting v s (past c d k q) f (k.hand q))
+    pub enter_verb : (v : Verb) → n ≡ node.VerbNode v → enter c d k q s f ≡ pause
+        (verb_path c.setting v s (past c d k q) f (k.hand q))
     unfolding path
     enter_verb v e = by_node (node.VerbNode v) e
 
     -- A condition.
 
-    first_is : (p : ℕ) (u : State) (K : Follow) (m : Moves) (h : Handler) → path c.setting z (paths c.setting z) (tree_of c p) u K m h ≡ paths c.setting d (tree_of c p) u K m h
+    first_is : (p : ℕ) (u : State) (K : Follow) (m : Moves) (h : Handler)
+        → path c.setting z (paths c.setting z) (tree_of c p) u K m h ≡ paths c.setting d (tree_of c p) u K m h
     first_is p u K m h = sym (paths_deep d z (tree_of c p) u K m h deep)
 
     other_is : (no' : Option ℕ) (u : State) (K : Follow) (m : Moves) (h : Handler) →
-        other_path c.setting z (paths c.setting z) (other_of c.trees no') u K m h ≡ other_from c (other_of c.trees no') d u K m h
+        other_path c.setting z (paths c.setting z) (other_of c.trees no') u K m h ≡ other_from c
+        (other_of c.trees no') d u K m h
     unfolding path
     other_is None u K m h = refl
     other_is (Some p) u K m h = first_is p u K m h
 
     -- where a test that is no lookaround holds, or not
     enter_chosen : (test : Cond) (yes' : ℕ) (no' : Option ℕ) → n ≡ node.Cond test yes' no' → (holds : Bool) →
-        choose_path holds (path c.setting z (paths c.setting z) (tree_of c yes')) (other_path c.setting z (paths c.setting z) (other_of c.trees no')) s (past c d k q) f (k.hand q)
+        choose_path holds (path c.setting z (paths c.setting z) (tree_of c yes'))
+        (other_path c.setting z (paths c.setting z) (other_of c.trees no')) s (past c d k q) f (k.hand q)
         ≡ pause (chosen_from c (tree_of c q) holds d s (past c d k q) f (k.hand q))
     enter_chosen test yes' no' e true =
         ap pause (first_is yes' s (past c d k q) f (k.hand q))
-        ∙ ap (λ t. pause (chosen_from c t true d s (past c d k q) f (k.hand q))) (tree_by q n i (node.Cond test yes' no') e)
+        ∙ ap (λ t. pause (chosen_from c t true d s (past c d k q) f (k.hand q)))
+        (tree_by q n i (node.Cond test yes' no') e)
     enter_chosen test yes' no' e false =
         ap pause (other_is no' s (past c d k q) f (k.hand q))
-        ∙ ap (λ t. pause (chosen_from c t false d s (past c d k q) f (k.hand q))) (tree_by q n i (node.Cond test yes' no') e)
+        ∙ ap (λ t. pause (chosen_from c t false d s (past c d k q) f (k.hand q)))
+        (tree_by q n i (node.Cond test yes' no') e)
 
     pub enter_any_set : (ns : List ℕ) (yes' : ℕ) (no' : Option ℕ) → n ≡ node.Cond (cond.AnySet ns) yes' no' →
         enter c d k q s f ≡ pause (chosen_from c (tree_of c q) (some_set s.caps ns) d s (past c d k q) f (k.hand q))
     unfolding path
-    enter_any_set ns yes' no' e = by_node (node.Cond (cond.AnySet ns) yes' no') e ∙ enter_chosen (cond.AnySet ns) yes' no' e (some_set s.caps ns)
+    enter_any_set ns yes' no' e = by_node (node.Cond (cond.AnySet ns) yes' no') e
+        ∙ enter_chosen (cond.AnySet ns) yes' no' e (some_set s.caps ns)
 
     pub enter_never : (yes' : ℕ) (no' : Option ℕ) → n ≡ node.Cond cond.Never yes' no' →
         enter c d k q s f ≡ pause (chosen_from c (tree_of c q) false d s (past c d k q) f (k.hand q))
@@ -588,33 +717,45 @@ module _ (c : Ground) where
     pub enter_in_call : (yes' : ℕ) (no' : Option ℕ) → n ≡ node.Cond cond.InCall yes' no' →
         enter c d k q s f ≡ pause (chosen_from c (tree_of c q) (is_called s.calls) d s (past c d k q) f (k.hand q))
     unfolding path
-    enter_in_call yes' no' e = by_node (node.Cond cond.InCall yes' no') e ∙ enter_chosen cond.InCall yes' no' e (is_called s.calls)
+    enter_in_call yes' no' e = by_node (node.Cond cond.InCall yes' no') e
+        ∙ enter_chosen cond.InCall yes' no' e (is_called s.calls)
 
     pub enter_in_call_of : (ns : List ℕ) (yes' : ℕ) (no' : Option ℕ) → n ≡ node.Cond (cond.InCallOf ns) yes' no' →
-        enter c d k q s f ≡ pause (chosen_from c (tree_of c q) (is_called_of s.calls ns) d s (past c d k q) f (k.hand q))
+        enter c d k q s f ≡ pause (chosen_from c (tree_of c q) (is_called_of s.calls ns) d s (past c d k q) f
+        (k.hand q))
     unfolding path
-    enter_in_call_of ns yes' no' e = by_node (node.Cond (cond.InCallOf ns) yes' no') e ∙ enter_chosen (cond.InCallOf ns) yes' no' e (is_called_of s.calls ns)
+    enter_in_call_of ns yes' no' e = by_node (node.Cond (cond.InCallOf ns) yes' no') e
+        ∙ enter_chosen (cond.InCallOf ns) yes' no' e (is_called_of s.calls ns)
 
     -- a lookaround as a test
     module _ (p : ℕ) (yes' : ℕ) (no' : Option ℕ) (e : n ≡ node.Cond (cond.Assert p) yes' no') where
       first_path : path c.setting z (paths c.setting z) (tree_of c yes') ≡ chosen_from c (tree_of c q) true d
-      first_path = path_same _ _ (λ u K m h. first_is yes' u K m h ∙ ap (λ t. chosen_from c t true d u K m h) (tree_by q n i (node.Cond (cond.Assert p) yes' no') e))
+      first_path = path_same _ _ (λ u K m h. first_is yes' u K m h
+          ∙ ap (λ t. chosen_from c t true d u K m h) (tree_by q n i (node.Cond (cond.Assert p) yes' no') e))
 
-      second_path : other_path c.setting z (paths c.setting z) (other_of c.trees no') ≡ chosen_from c (tree_of c q) false d
-      second_path = path_same _ _ (λ u K m h. other_is no' u K m h ∙ ap (λ t. chosen_from c t false d u K m h) (tree_by q n i (node.Cond (cond.Assert p) yes' no') e))
+      second_path : other_path c.setting z (paths c.setting z) (other_of c.trees no') ≡ chosen_from c (tree_of c q)
+          false d
+      second_path = path_same _ _ (λ u K m h. other_is no' u K m h
+          ∙ ap (λ t. chosen_from c t false d u K m h) (tree_by q n i (node.Cond (cond.Assert p) yes' no') e))
 
-      test_kids : (ahead positive once : Bool) (ks : List ℕ) (t : Nested) → tree.look ahead positive once (row (map (tree_at c.trees) ks)) ≡ t → (P P' : Path) (K : Follow) →
-          test_path c.setting z (paths c.setting z) (tree.assert ahead positive once (row (map (tree_at c.trees) ks))) P P' s K f (k.hand q)
+      test_kids : (ahead positive once : Bool) (ks : List ℕ) (t : Nested)
+          → tree.look ahead positive once (row (map (tree_at c.trees) ks)) ≡ t → (P P' : Path) (K : Follow) →
+          test_path c.setting z (paths c.setting z) (tree.assert ahead positive once (row (map (tree_at c.trees) ks)))
+          P P' s K f (k.hand q)
           ≡ assert_path c.setting positive (branch_paths c.setting (kid_paths c t d ks)) P P' s K f (k.hand q)
       unfolding path
       test_kids true positive once ks t l P P' K =
-          ap (λ (xs : List Path). assert_path c.setting positive (branch_paths c.setting xs) P P' s K f (k.hand q)) (look_row d z deep true positive once ks t l)
+          ap (λ (xs : List Path). assert_path c.setting positive (branch_paths c.setting xs) P P' s K f (k.hand q))
+          (look_row d z deep true positive once ks t l)
       test_kids false positive once ks t l P P' K =
-          ap (λ (xs : List Path). assert_path c.setting positive (branch_paths c.setting xs) P P' s K f (k.hand q)) (look_row d z deep false positive once ks t l)
+          ap (λ (xs : List Path). assert_path c.setting positive (branch_paths c.setting xs) P P' s K f (k.hand q))
+          (look_row d z deep false positive once ks t l)
 
-      asserted : (ahead positive once : Bool) (ks : List ℕ) → tree_of c p ≡ tree.look ahead positive once (row (map (tree_at c.trees) ks)) →
+      asserted : (ahead positive once : Bool) (ks : List ℕ)
+          → tree_of c p ≡ tree.look ahead positive once (row (map (tree_at c.trees) ks)) →
           enter c d k q s f
-          ≡ assert_path c.setting positive (branch_paths c.setting (kid_paths c (tree_of c p) d ks)) (chosen_from c (tree_of c q) true d) (chosen_from c (tree_of c q) false d) s (past c d k q) f (k.hand q)
+          ≡ assert_path c.setting positive (branch_paths c.setting (kid_paths c (tree_of c p) d ks))
+          (chosen_from c (tree_of c q) true d) (chosen_from c (tree_of c q) false d) s (past c d k q) f (k.hand q)
       unfolding path
       asserted ahead positive once ks t =
           let P : Path = path c.setting z (paths c.setting z) (tree_of c yes') in
@@ -623,41 +764,59 @@ module _ (c : Ground) where
           by_node (node.Cond (cond.Assert p) yes' no') e
           ∙ ap (λ u. test_path c.setting z (paths c.setting z) (test_of u) P P' s K f (k.hand q)) t
           ∙ test_kids ahead positive once ks (tree_of c p) (sym t) P P' K
-          ∙ ap (λ (x : Path). assert_path c.setting positive (branch_paths c.setting (kid_paths c (tree_of c p) d ks)) x P' s K f (k.hand q)) first_path
-          ∙ ap (λ (x : Path). assert_path c.setting positive (branch_paths c.setting (kid_paths c (tree_of c p) d ks)) (chosen_from c (tree_of c q) true d) x s K f (k.hand q)) second_path
+          ∙ ap (λ (x : Path). assert_path c.setting positive (branch_paths c.setting (kid_paths c (tree_of c p) d ks))
+          x P' s K f (k.hand q)) first_path
+          ∙ ap (λ (x : Path). assert_path c.setting positive (branch_paths c.setting (kid_paths c (tree_of c p) d ks))
+          (chosen_from c (tree_of c q) true d) x s K f (k.hand q)) second_path
 
       -- where it has an outcome, the first branch is run if it is positive, and else the second
-      pub enter_test : (ahead positive once : Bool) (ks : List ℕ) → tree_of c p ≡ tree.look ahead positive once (row (map (tree_at c.trees) ks)) →
+      pub enter_test : (ahead positive once : Bool) (ks : List ℕ)
+          → tree_of c p ≡ tree.look ahead positive once (row (map (tree_at c.trees) ks)) →
           enter c d k q s f
-          ≡ tested_path c.setting (branch_paths c.setting (kid_paths c (tree_of c p) d ks)) (chosen_from c (tree_of c q) positive d) (chosen_from c (tree_of c q) (not positive) d) s (past c d k q) f (k.hand q)
+          ≡ tested_path c.setting (branch_paths c.setting (kid_paths c (tree_of c p) d ks))
+          (chosen_from c (tree_of c q) positive d) (chosen_from c (tree_of c q) (not positive) d) s (past c d k q)
+          f (k.hand q)
       enter_test ahead true once ks t = asserted ahead true once ks t
       enter_test ahead false once ks t = asserted ahead false once ks t
 
       -- a lookaround after a callout
-      looked : (r : ℕ) (ahead positive once : Bool) (ks : List ℕ) → tree_of c r ≡ tree.look ahead positive once (row (map (tree_at c.trees) ks)) →
+      looked : (r : ℕ) (ahead positive once : Bool) (ks : List ℕ)
+          → tree_of c r ≡ tree.look ahead positive once (row (map (tree_at c.trees) ks)) →
           test_path c.setting z (paths c.setting z) (tree.assert ahead positive once (row (map (tree_at c.trees) ks)))
-          (path c.setting z (paths c.setting z) (tree_of c yes')) (other_path c.setting z (paths c.setting z) (other_of c.trees no')) s (past c d k q) f (k.hand q)
-          ≡ assert_path c.setting positive (branch_paths c.setting (kid_paths c (tree_of c r) d ks)) (chosen_from c (tree_of c q) true d) (chosen_from c (tree_of c q) false d) s (past c d k q) f (k.hand q)
+          (path c.setting z (paths c.setting z) (tree_of c yes'))
+          (other_path c.setting z (paths c.setting z) (other_of c.trees no')) s (past c d k q) f (k.hand q)
+          ≡ assert_path c.setting positive (branch_paths c.setting (kid_paths c (tree_of c r) d ks))
+          (chosen_from c (tree_of c q) true d) (chosen_from c (tree_of c q) false d) s (past c d k q) f (k.hand q)
       looked r ahead positive once ks t =
           let P' : Path = other_path c.setting z (paths c.setting z) (other_of c.trees no') in
           let K : Follow = past c d k q in
-          test_kids ahead positive once ks (tree_of c r) (sym t) (path c.setting z (paths c.setting z) (tree_of c yes')) P' K
-          ∙ ap (λ (x : Path). assert_path c.setting positive (branch_paths c.setting (kid_paths c (tree_of c r) d ks)) x P' s K f (k.hand q)) first_path
-          ∙ ap (λ (x : Path). assert_path c.setting positive (branch_paths c.setting (kid_paths c (tree_of c r) d ks)) (chosen_from c (tree_of c q) true d) x s K f (k.hand q)) second_path
+          test_kids ahead positive once ks (tree_of c r) (sym t)
+          (path c.setting z (paths c.setting z) (tree_of c yes')) P' K
+          ∙ ap (λ (x : Path). assert_path c.setting positive (branch_paths c.setting (kid_paths c (tree_of c r) d ks))
+          x P' s K f (k.hand q)) first_path
+          ∙ ap (λ (x : Path). assert_path c.setting positive (branch_paths c.setting (kid_paths c (tree_of c r) d ks))
+          (chosen_from c (tree_of c q) true d) x s K f (k.hand q)) second_path
 
-      tested : (r : ℕ) (ahead positive once : Bool) (ks : List ℕ) → tree_of c r ≡ tree.look ahead positive once (row (map (tree_at c.trees) ks)) →
+      tested : (r : ℕ) (ahead positive once : Bool) (ks : List ℕ)
+          → tree_of c r ≡ tree.look ahead positive once (row (map (tree_at c.trees) ks)) →
           test_path c.setting z (paths c.setting z) (tree.assert ahead positive once (row (map (tree_at c.trees) ks)))
-          (path c.setting z (paths c.setting z) (tree_of c yes')) (other_path c.setting z (paths c.setting z) (other_of c.trees no')) s (past c d k q) f (k.hand q)
-          ≡ tested_path c.setting (branch_paths c.setting (kid_paths c (tree_of c r) d ks)) (chosen_from c (tree_of c q) positive d) (chosen_from c (tree_of c q) (not positive) d) s (past c d k q) f (k.hand q)
+          (path c.setting z (paths c.setting z) (tree_of c yes'))
+          (other_path c.setting z (paths c.setting z) (other_of c.trees no')) s (past c d k q) f (k.hand q)
+          ≡ tested_path c.setting (branch_paths c.setting (kid_paths c (tree_of c r) d ks))
+          (chosen_from c (tree_of c q) positive d) (chosen_from c (tree_of c q) (not positive) d) s (past c d k q)
+          f (k.hand q)
       tested r ahead true once ks t = looked r ahead true once ks t
       tested r ahead false once ks t = looked r ahead false once ks t
 
       pub enter_called : (x : Callout) (r : ℕ) (ahead positive once : Bool) (ks : List ℕ) →
-          tree_of c p ≡ tree.seq (tree.more (tree.callout x) (tree.more (tree.look ahead positive once (row (map (tree_at c.trees) ks))) tree.none)) →
+          tree_of c p ≡ tree.seq (tree.more (tree.callout x)
+          (tree.more (tree.look ahead positive once (row (map (tree_at c.trees) ks))) tree.none)) →
           tree_of c r ≡ tree.look ahead positive once (row (map (tree_at c.trees) ks)) →
           enter c d k q s f
           ≡ pause (noted (shown (block_of x s)) (answered (c.setting.reply (block_of x s))
-          (tested_path c.setting (branch_paths c.setting (kid_paths c (tree_of c r) d ks)) (chosen_from c (tree_of c q) positive d) (chosen_from c (tree_of c q) (not positive) d) s (past c d k q) f (k.hand q))
+          (tested_path c.setting (branch_paths c.setting (kid_paths c (tree_of c r) d ks))
+          (chosen_from c (tree_of c q) positive d) (chosen_from c (tree_of c q) (not positive) d) s
+          (past c d k q) f (k.hand q))
           f))
       unfolding path
       enter_called x r ahead positive once ks t u =
@@ -665,7 +824,8 @@ module _ (c : Ground) where
           let P' : Path = other_path c.setting z (paths c.setting z) (other_of c.trees no') in
           by_node (node.Cond (cond.Assert p) yes' no') e
           ∙ ap (λ v. test_path c.setting z (paths c.setting z) (test_of v) P P' s (past c d k q) f (k.hand q)) t
-          ∙ ap (λ m. pause (noted (shown (block_of x s)) (answered (c.setting.reply (block_of x s)) m f))) (tested r ahead positive once ks u)
+          ∙ ap (λ m. pause (noted (shown (block_of x s)) (answered (c.setting.reply (block_of x s)) m f)))
+          (tested r ahead positive once ks u)
 
     pub enter_callout : (number from to at len : ℕ) → n ≡ node.Callout number from to at len →
         enter c d k q s f
@@ -677,25 +837,33 @@ module _ (c : Ground) where
     pub enter_repeat : (body low : ℕ) (high : Option ℕ) (lazily : Bool) → n ≡ node.Repeat body low high lazily →
         enter c d k q s f ≡ focus c (Offer q 0) d k s f
     enter_repeat body low high lazily e =
-        let t : tree.repeat (tree_of c body) low high lazily ≡ tree_of c q = tree_by q n i (node.Repeat body low high lazily) e in
+        let t : tree.repeat (tree_of c body) low high lazily ≡ tree_of c q =
+        tree_by q n i (node.Repeat body low high lazily) e in
         let none_less : high ≡ less 0 high = less_none high in
         let zero_less : d ≡ d - 0 = omega arith in
         let low_less : low ≡ low - 0 = omega arith in
         ap (λ z. paths c.setting d z s (past c d k q) f (k.hand q)) (sym t)
-        ∙ ap (λ x. paths c.setting x (tree.repeat (tree_of c body) low high lazily) s (past c d k q) f (k.hand q)) zero_less
-        ∙ ap (λ x. paths c.setting (d - 0) (tree.repeat (tree_of c body) x high lazily) s (past c d k q) f (k.hand q)) low_less
-        ∙ ap (λ x. paths c.setting (d - 0) (tree.repeat (tree_of c body) (low - 0) x lazily) s (past c d k q) f (k.hand q)) none_less
+        ∙ ap (λ x. paths c.setting x (tree.repeat (tree_of c body) low high lazily) s (past c d k q) f (k.hand q))
+        zero_less
+        ∙ ap (λ x. paths c.setting (d - 0) (tree.repeat (tree_of c body) x high lazily) s (past c d k q) f (k.hand q))
+        low_less
+        ∙ ap (λ x. paths c.setting (d - 0) (tree.repeat (tree_of c body) (low - 0) x lazily) s (past c d k q) f
+        (k.hand q)) none_less
         ∙ ap (λ z. offer_from c z 0 d s (past c d k q) f (k.hand q)) t
 
-    pub enter_many : (item : Item) (low : ℕ) (high : Option ℕ) (lazily : Bool) → n ≡ node.OneRepeat item low high lazily →
-        enter c d k q s f ≡ pause (many_paths c.setting item low high lazily (longest_run c.setting.scene item high s.place) s (past c d k q) f)
+    pub enter_many : (item : Item) (low : ℕ) (high : Option ℕ) (lazily : Bool)
+        → n ≡ node.OneRepeat item low high lazily →
+        enter c d k q s f ≡ pause (many_paths c.setting item low high lazily
+        (longest_run c.setting.scene item high s.place) s (past c d k q) f)
     unfolding path
     enter_many item low high lazily e = by_node (node.OneRepeat item low high lazily) e
 
   -- A repeat after some turns.
 
-  repeat_below : (d : ℕ) (body : Nested) (low : ℕ) (high : Option ℕ) (lazily : Bool) (s : State) (k : Follow) (f : Moves) (h : Handler) → 0 < low →
-      paths c.setting (suc d) (tree.repeat body low high lazily) s k f h ≡ pause (turn_path c.setting (paths c.setting d) body low high lazily s k f h)
+  repeat_below : (d : ℕ) (body : Nested) (low : ℕ) (high : Option ℕ) (lazily : Bool) (s : State) (k : Follow)
+      (f : Moves) (h : Handler) → 0 < low →
+      paths c.setting (suc d) (tree.repeat body low high lazily) s k f h ≡ pause
+      (turn_path c.setting (paths c.setting d) body low high lazily s k f h)
   unfolding paths path repeat_path
   repeat_below d body zero high lazily s k f h lt = absurd (omega (arith, lt))
   repeat_below d body (suc low) high lazily s k f h lt = refl
@@ -703,7 +871,8 @@ module _ (c : Ground) where
   some_left : (n : ℕ) → is_none_left (Some (suc n)) ≡ true → ⊥
   some_left n e = false≢true (sym (ne_eqb (suc n) 0 (λ x. omega (arith, x))) ∙ e)
 
-  repeat_full : (d : ℕ) (body : Nested) (low : ℕ) (high : Option ℕ) (lazily : Bool) (s : State) (k : Follow) (f : Moves) (h : Handler) → low ≡ 0 → is_none_left high ≡ true →
+  repeat_full : (d : ℕ) (body : Nested) (low : ℕ) (high : Option ℕ) (lazily : Bool) (s : State) (k : Follow)
+      (f : Moves) (h : Handler) → low ≡ 0 → is_none_left high ≡ true →
       paths c.setting (suc d) (tree.repeat body low high lazily) s k f h ≡ pause (k reached s f)
   unfolding paths path repeat_path
   repeat_full d body (suc low) high lazily s k f h x e = absurd (omega (arith, x))
@@ -711,17 +880,21 @@ module _ (c : Ground) where
   repeat_full d body zero (Some zero) lazily s k f h x e = refl
   repeat_full d body zero (Some (suc n)) lazily s k f h x e = absurd (some_left n e)
 
-  repeat_greedy : (d : ℕ) (body : Nested) (low : ℕ) (high : Option ℕ) (s : State) (k : Follow) (f : Moves) (h : Handler) → low ≡ 0 → is_none_left high ≡ false →
-      paths c.setting (suc d) (tree.repeat body low high false) s k f h ≡ pause (turn_path c.setting (paths c.setting d) body low high false s k (k reached s f) h)
+  repeat_greedy : (d : ℕ) (body : Nested) (low : ℕ) (high : Option ℕ) (s : State) (k : Follow) (f : Moves)
+      (h : Handler) → low ≡ 0 → is_none_left high ≡ false →
+      paths c.setting (suc d) (tree.repeat body low high false) s k f h ≡ pause
+      (turn_path c.setting (paths c.setting d) body low high false s k (k reached s f) h)
   unfolding paths path repeat_path
   repeat_greedy d body (suc low) high s k f h x e = absurd (omega (arith, x))
   repeat_greedy d body zero None s k f h x e = refl
   repeat_greedy d body zero (Some zero) s k f h x e = absurd (false≢true (sym e))
   repeat_greedy d body zero (Some (suc n)) s k f h x e = refl
 
-  repeat_lazy : (d : ℕ) (body : Nested) (low : ℕ) (high : Option ℕ) (s : State) (k : Follow) (f : Moves) (h : Handler) → low ≡ 0 → is_none_left high ≡ false →
+  repeat_lazy : (d : ℕ) (body : Nested) (low : ℕ) (high : Option ℕ) (s : State) (k : Follow) (f : Moves) (h : Handler)
+      → low ≡ 0 → is_none_left high ≡ false →
       paths c.setting (suc d) (tree.repeat body low high true) s k f h
-      ≡ pause (holding c.setting 1 s (λ t. k reached t (pause (turn_path c.setting (paths c.setting d) body low high true s k f h))))
+      ≡ pause (holding c.setting 1 s
+      (λ t. k reached t (pause (turn_path c.setting (paths c.setting d) body low high true s k f h))))
   unfolding paths path repeat_path
   repeat_lazy d body (suc low) high s k f h x e = absurd (omega (arith, x))
   repeat_lazy d body zero None s k f h x e = refl
@@ -729,51 +902,66 @@ module _ (c : Ground) where
   repeat_lazy d body zero (Some (suc n)) s k f h x e = refl
 
   -- A repeat of the pattern after i turns, where d is one more than the depth after a further turn.
-  module _ (q i d : ℕ) (body : Nested) (low : ℕ) (high : Option ℕ) (lazily : Bool) (t : tree.repeat body low high lazily ≡ tree_of c q)
+  module _ (q i d : ℕ) (body : Nested) (low : ℕ) (high : Option ℕ) (lazily : Bool)
+      (t : tree.repeat body low high lazily ≡ tree_of c q)
       (k : Outside) (s : State) (f : Moves) (deep : i < d) where
-    offer_is : focus c (Offer q i) d k s f ≡ paths c.setting (suc (d - suc i)) (tree.repeat body (low - i) (less i high) lazily) s (past c d k q) f (k.hand q)
+    offer_is : focus c (Offer q i) d k s f ≡ paths c.setting (suc (d - suc i))
+        (tree.repeat body (low - i) (less i high) lazily) s (past c d k q) f (k.hand q)
     offer_is =
         let e : d - i ≡ suc (d - suc i) = omega (arith, deep) in
         ap (λ x. offer_from c x i d s (past c d k q) f (k.hand q)) (sym t)
         ∙ ap (λ x. paths c.setting x (tree.repeat body (low - i) (less i high) lazily) s (past c d k q) f (k.hand q)) e
 
-    pub begin_is : (m : Moves) → turn_path c.setting (paths c.setting (d - suc i)) body (low - i) (less i high) lazily s (past c d k q) m (k.hand q)
+    pub begin_is : (m : Moves) → turn_path c.setting (paths c.setting (d - suc i)) body (low - i) (less i high) lazily
+        s (past c d k q) m (k.hand q)
         ≡ begin_from c (tree_of c q) i d s (past c d k q) m (k.hand q)
     begin_is m = ap (λ x. begin_from c x i d s (past c d k q) m (k.hand q)) t
 
     pub offer_below : i < low → focus c (Offer q i) d k s f ≡ pause (focus c (Begin q i false) d k s f)
     offer_below lt =
-        offer_is ∙ repeat_below (d - suc i) body (low - i) (less i high) lazily s (past c d k q) f (k.hand q) (omega (arith, lt)) ∙ ap pause (begin_is f)
+        offer_is ∙ repeat_below (d - suc i) body (low - i) (less i high) lazily s (past c d k q) f (k.hand q)
+        (omega (arith, lt)) ∙ ap pause (begin_is f)
 
-    pub offer_full : low ≤ i → is_none_left (less i high) ≡ true → focus c (Offer q i) d k s f ≡ pause (past c d k q reached s f)
-    offer_full ge e = offer_is ∙ repeat_full (d - suc i) body (low - i) (less i high) lazily s (past c d k q) f (k.hand q) (omega (arith, ge)) e
+    pub offer_full : low ≤ i → is_none_left (less i high) ≡ true
+        → focus c (Offer q i) d k s f ≡ pause (past c d k q reached s f)
+    offer_full ge e = offer_is ∙ repeat_full (d - suc i) body (low - i) (less i high) lazily s (past c d k q) f
+        (k.hand q) (omega (arith, ge)) e
 
-    pub offer_greedy : low ≤ i → is_none_left (less i high) ≡ false → lazily ≡ false → focus c (Offer q i) d k s f ≡ pause (focus c (Begin q i true) d k s f)
+    pub offer_greedy : low ≤ i → is_none_left (less i high) ≡ false → lazily ≡ false
+        → focus c (Offer q i) d k s f ≡ pause (focus c (Begin q i true) d k s f)
     offer_greedy ge e is =
         let K : Follow = past c d k q in
         offer_is
         ∙ ap (λ b. paths c.setting (suc (d - suc i)) (tree.repeat body (low - i) (less i high) b) s K f (k.hand q)) is
         ∙ repeat_greedy (d - suc i) body (low - i) (less i high) s K f (k.hand q) (omega (arith, ge)) e
-        ∙ ap (λ b. pause (turn_path c.setting (paths c.setting (d - suc i)) body (low - i) (less i high) b s K (K reached s f) (k.hand q))) (sym is)
+        ∙ ap (λ b. pause (turn_path c.setting (paths c.setting (d - suc i)) body (low - i) (less i high) b s K
+        (K reached s f) (k.hand q))) (sym is)
         ∙ ap pause (begin_is (K reached s f))
 
     pub offer_lazy : low ≤ i → is_none_left (less i high) ≡ false → lazily ≡ true → focus c (Offer q i) d k s f
-        ≡ pause (holding c.setting 1 s (λ u. past c d k q reached u (pause (begin_from c (tree_of c q) i d s (past c d k q) f (k.hand q)))))
+        ≡ pause (holding c.setting 1 s (λ u. past c d k q reached u
+        (pause (begin_from c (tree_of c q) i d s (past c d k q) f (k.hand q)))))
     offer_lazy ge e is =
         let K : Follow = past c d k q in
         offer_is
         ∙ ap (λ b. paths c.setting (suc (d - suc i)) (tree.repeat body (low - i) (less i high) b) s K f (k.hand q)) is
         ∙ repeat_lazy (d - suc i) body (low - i) (less i high) s K f (k.hand q) (omega (arith, ge)) e
-        ∙ ap (λ b. pause (holding c.setting 1 s (λ u. K reached u (pause (turn_path c.setting (paths c.setting (d - suc i)) body (low - i) (less i high) b s K f (k.hand q)))))) (sym is)
+        ∙ ap (λ b. pause
+        (holding c.setting 1 s
+        (λ u. K reached u
+        (pause (turn_path c.setting (paths c.setting (d - suc i)) body (low - i) (less i high) b s K f
+        (k.hand q)))))) (sym is)
         ∙ ap (λ m. pause (holding c.setting 1 s (λ u. K reached u (pause m)))) (begin_is f)
 
     -- a further turn
     pub begin_step : (b : Bool) → focus c (Begin q i b) d k s f ≡ stepped (holding c.setting 1 s (λ u.
-        paths c.setting (d - suc i) body u (turned_from c (tree_of c q) i d s (past c d k q) (k.hand q)) (pause (if b then past c d k q reached s f else f)) (k.hand q)))
+        paths c.setting (d - suc i) body u (turned_from c (tree_of c q) i d s (past c d k q) (k.hand q))
+        (pause (if b then past c d k q reached s f else f)) (k.hand q)))
     unfolding turn_path
     begin_step b =
         let K : Follow = past c d k q in
         let m : Moves = if b then K reached s f else f in
         sym (begin_is m)
-        ∙ ap (λ (l : Follow). stepped (holding c.setting 1 s (λ u. paths c.setting (d - suc i) body u l (pause m) (k.hand q))))
+        ∙ ap (λ (l : Follow). stepped
+        (holding c.setting 1 s (λ u. paths c.setting (d - suc i) body u l (pause m) (k.hand q))))
         (ap (λ x. turned_from c x i d s K (k.hand q)) t)

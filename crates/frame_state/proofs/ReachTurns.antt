@@ -1,5 +1,6 @@
 -- The subject's end is reached: what is told of it, and how the machine goes on.
-use Rattle.std.proofs.Common.{◌≡◌, ℕ, ◌∙◌, Bool, true, false, ◌&&◌, ◌||◌, not, Option, Some, None, Result, Ok, Err, IfErr, refl, sym, ap, arith}
+use Rattle.std.proofs.Common.{◌≡◌, ℕ, ◌∙◌, Bool, true, false, ◌&&◌, ◌||◌, not, Option, Some, None, Result, Ok, Err}
+use Rattle.std.proofs.Common.{IfErr, refl, sym, ap, arith}
 use Rattle.std.proofs.lemmas.Bool.{false≢true}
 use Rattle.std.specs.Option.{option_or}
 use Rattle.pat_tree.specs.declared.options.PartialMode.{PartialMode}
@@ -28,7 +29,8 @@ err_more P Q (Ok x) h p = p
 err_more P Q (Err e) h p = h e p
 
 -- the hard rule ends the match, and memory isn't wanting
-pub hard_steady : (c : Ground) (b : Bool) (early : ℕ) (old new : Met) (s : Stop) → IsHardStop c b early old new s → IsSteady s
+pub hard_steady : (c : Ground) (b : Bool) (early : ℕ) (old new : Met) (s : Stop) → IsHardStop c b early old new s
+    → IsSteady s
 hard_steady c b early old new stop.Partial h = tt
 hard_steady c b early old new _ h = absurd h
 
@@ -37,7 +39,8 @@ steady_short stop.Memory limit store h = absurd h
 steady_short (stop.Abort n) limit store h = absurd h
 steady_short _ limit store h = tt
 
-pub hard_short : (c : Ground) (b : Bool) (early : ℕ) (old new : Met) (s : Stop) (limit : ℕ) (store : Stack) → IsHardStop c b early old new s → IsShort s limit store
+pub hard_short : (c : Ground) (b : Bool) (early : ℕ) (old new : Met) (s : Stop) (limit : ℕ) (store : Stack)
+    → IsHardStop c b early old new s → IsShort s limit store
 hard_short c b early old new s limit store h = steady_short s limit store (hard_steady c b early old new s h)
 
 pub off_is : (p : PartialMode) → is_off p ≡ true → p ≡ Off
@@ -114,7 +117,8 @@ told_hit met w =
 
 module _ (c : Ground) where
   -- nothing has to be noted
-  noted_none : (b : Bool) (early : ℕ) (met : Met) → ((s : State) (x : Moves) → s.early ≡ early → reaching c.setting b s x ≡ x) →
+  noted_none : (b : Bool) (early : ℕ) (met : Met)
+      → ((s : State) (x : Moves) → s.early ≡ early → reaching c.setting b s x ≡ x) →
       IsNoted c b early met met
   noted_none b early met h = record {
     answer = λ left s x same. ap (λ y. told met (tread c.setting left y)) (h s x same);
@@ -128,7 +132,8 @@ module _ (c : Ground) where
   noted_not b early met e =
       noted_none b early met (λ s x same. ap (λ z. reaching c.setting z s x) e ∙ reaching_not c.setting s x)
 
-  pub noted_uncounted : (b : Bool) (early : ℕ) (met : Met) → counts_from c.setting early ≡ false → IsNoted c b early met met
+  pub noted_uncounted : (b : Bool) (early : ℕ) (met : Met) → counts_from c.setting early ≡ false
+      → IsNoted c b early met met
   noted_uncounted b early met e =
       noted_none b early met
       (λ s x same. reaching_uncounted c.setting b s x (counted_from c.setting early s same false e))
@@ -160,12 +165,14 @@ module _ (c : Ground) where
 
     pub noted_asked : IsNoted c r early old new → IsNoted c b early old new
     noted_asked w = record {
-      answer = λ left s x same. ap (λ y. told old (tread c.setting left y)) (sym (asked_as s x)) ∙ w.answer left s x same;
+      answer = λ left s x same. ap (λ y. told old (tread c.setting left y)) (sym (asked_as s x))
+          ∙ w.answer left s x same;
       longer = λ s x same. let l = w.longer s x same in omega (arith, l, ap size (asked_as s x));
     }
 
     pub stop_asked : (s : Stop) → IsHardStop c r early old new s → IsHardStop c b early old new s
-    stop_asked stop.Partial h = λ left s x same. ap (λ y. told old (tread c.setting left y)) (sym (asked_as s x)) ∙ h left s x same
+    stop_asked stop.Partial h = λ left s x same. ap (λ y. told old (tread c.setting left y)) (sym (asked_as s x))
+        ∙ h left s x same
     stop_asked stop.Match h = absurd h
     stop_asked stop.NoMatch h = absurd h
     stop_asked (stop.Verb a) h = absurd h
@@ -176,8 +183,10 @@ module _ (c : Ground) where
     stop_asked stop.Memory h = absurd h
 
   -- A turn that notes it, if it is so.
-  pub advance_noted : (m n : Conf) (b : Bool) (early : ℕ) (s : State) (z : Moves) → ahead c m ≡ pause (reaching c.setting b s z) →
-      s.early ≡ early → IsNoted c b early m.spot.last n.spot.last → ahead c n ≡ z → n.spot.left ≡ m.spot.left → IsValid c n → Advances c m n
+  pub advance_noted : (m n : Conf) (b : Bool) (early : ℕ) (s : State) (z : Moves)
+      → ahead c m ≡ pause (reaching c.setting b s z) →
+      s.early ≡ early → IsNoted c b early m.spot.last n.spot.last → ahead c n ≡ z → n.spot.left ≡ m.spot.left
+      → IsValid c n → Advances c m n
   unfolding tread size
   advance_noted m n b early s z e at w same left v = let longer = w.longer s z at in record {
     answer =
@@ -187,8 +196,10 @@ module _ (c : Ground) where
     valid = v;
   }
 
-  pub stop_noted : (m : Conf) (b : Bool) (early : ℕ) (s : State) (z : Moves) → ahead c m ≡ pause (reaching c.setting b s z) → s.early ≡ early →
-      (spot : Spot) (caps : Captures) (x : Stop) → IsHardStop c b early m.spot.last spot.last x → IsStop x spot caps (tells c.setting m.spot (ahead c m))
+  pub stop_noted : (m : Conf) (b : Bool) (early : ℕ) (s : State) (z : Moves)
+      → ahead c m ≡ pause (reaching c.setting b s z) → s.early ≡ early →
+      (spot : Spot) (caps : Captures) (x : Stop) → IsHardStop c b early m.spot.last spot.last x
+      → IsStop x spot caps (tells c.setting m.spot (ahead c m))
   unfolding tread
   stop_noted m b early s z e at spot caps stop.Partial h = ap (tells c.setting m.spot) e ∙ h m.spot.left s z at
   stop_noted m b early s z e at spot caps stop.Match h = absurd h

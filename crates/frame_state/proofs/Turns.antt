@@ -1,5 +1,7 @@
 -- The steps of the machine at a part.
-use Rattle.std.proofs.Common.{◌≡◌, ℕ, suc, ◌+◌, ◌-◌, ◌<◌, ◌≤◌, ◌∙◌, Bool, true, false, ◌&&◌, if◌then◌else◌, List, [], ◌∷◌, map, Option, Some, None, length, All, slice_get, get_or, ◌⊎◌, inl, inr, refl, sym, ap, subst, arith}
+use Rattle.std.proofs.Common.{◌≡◌, ℕ, suc, ◌+◌, ◌-◌, ◌<◌, ◌≤◌, ◌∙◌, Bool, true, false, ◌&&◌, if◌then◌else◌, List, []}
+use Rattle.std.proofs.Common.{◌∷◌, map, Option, Some, None, length, All, slice_get, get_or, ◌⊎◌, inl, inr, refl, sym}
+use Rattle.std.proofs.Common.{ap, subst, arith}
 use Rattle.std.proofs.lemmas.List.Elements.{All-head, All-get_or, All-tail}
 use Rattle.std.proofs.Math.ListN.{get_or-eq_default}
 use Rattle.std.proofs.lemmas.Bool.{cases_lt}
@@ -10,7 +12,8 @@ use Rattle.pat_tree.specs.declared.nodes.Node.{Node}
 use Rattle.pat_tree.specs.declared.nodes.Node.TheVariants as node
 use Rattle.pat_tree.specs.Nested.{row, nest, tree_at}
 use Rattle.pat_tree.specs.Rules.{kids_of}
-use Rattle.match_items.specs.Items.{after_item, item_reaches, after_break, break_reaches, after_ref, holds, anchor_reaches, earliest}
+use Rattle.match_items.specs.Items.{after_item, item_reaches, after_break, break_reaches, after_ref, holds}
+use Rattle.match_items.specs.Items.{anchor_reaches, earliest}
 use Rattle.frame_store.specs.declared.registers.Span.{Span}
 use Rattle.frame_store.specs.Captures.{Captures, capture}
 use Rattle.frame_store.specs.Entry.{Entry, GroupOpen, LaterBranch, Site, Kept, entry_site}
@@ -18,7 +21,8 @@ use Rattle.ordered_search.specs.Stream.{State, prune, skip, commit, reached}
 use Rattle.ordered_search.specs.PlaceAnswer.{answers, MatchLimit, FrameLimit}
 use Rattle.pat_lengths.specs.Lengths.{SomeLengths}
 use Rattle.ordered_search.specs.Setting.{branch_lengths}
-use Rattle.ordered_search.specs.Moves.{Moves, pause, stepped, Follow, Path, catching, going, holding, reaching, tread, Handler}
+use Rattle.ordered_search.specs.Moves.{Moves, pause, stepped, Follow, Path, catching, going, holding, reaching}
+use Rattle.ordered_search.specs.Moves.{tread, Handler}
 use Rattle.frame_state.specs.declared.machine.Next.{Next}
 use Rattle.frame_state.specs.declared.machine.Next.TheVariants.{Enter, Branch, Offer, Back, End}
 use Rattle.frame_state.specs.declared.machine.Met.{Met}
@@ -27,24 +31,36 @@ use Rattle.frame_state.specs.declared.machine.Stop.{Stop}
 use Rattle.frame_state.specs.Begun.{is_behind, begun_by, begun_place, begun_next, begun_spot, first_begun, first_spot}
 use Rattle.frame_state.specs.Branches.{IsBranched}
 use Rattle.frame_state.specs.Ground.{Ground, tree_of, next_of, BeginsBy, IsNode, StandsIf, IsGround, IsPart}
-use Rattle.frame_state.specs.Machine.{Around, Outside, kept_at, conf, first_set, first_next, row_length, towards, entry_kept, state_at, heard}
-use Rattle.frame_state.specs.Frames.{after, past, branch_rest, branch_path, around, around_at, outside, cont, caught, fail, focus, spot_state, ahead, frame_around, hand}
+use Rattle.frame_state.specs.Machine.{Around, Outside, kept_at, conf, first_set, first_next, row_length, towards}
+use Rattle.frame_state.specs.Machine.{entry_kept, state_at, heard}
+use Rattle.frame_state.specs.Frames.{after, past, branch_rest, branch_path, around, around_at, outside, cont, caught}
+use Rattle.frame_state.specs.Frames.{fail, focus, spot_state, ahead, frame_around, hand}
 use Rattle.frame_state.specs.Over.{GoesBy}
-use Rattle.frame_state.specs.Validity.{IsLater, StandsAt, IsRepeat, IsCapture, SpanStands, AreSpans, IsRunning, IsValid, Advances, IsSound}
+use Rattle.frame_state.specs.Validity.{IsLater, StandsAt, IsRepeat, IsCapture, SpanStands, AreSpans, IsRunning}
+use Rattle.frame_state.specs.Validity.{IsValid, Advances, IsSound}
 use Rattle.frame_state.specs.Stops.{moved_next, moved_spot, held_next, held_early, part_next, tells, IsStop}
 use Rattle.frame_state.specs.Reach.{asks, IsNoted, IsHardStop, IsTested, IsAnchored, referred_reaches}
 use Rattle.frame_state.proofs.ReachTurns.{noted_off, noted_asked, stop_asked, advance_noted, stop_noted}
 use Rattle.node_flow.specs.Branches.{branch_if}
 use Rattle.node_flow.proofs.Branching.{branch_own}
 use Rattle.frame_state.proofs.KidParts.{kid_parts, kid_ranks}
-use Rattle.frame_state.proofs.PartPaths.{enter_empty, enter_keep, enter_one, enter_break, enter_anchor, enter_ref, enter_seq_none, enter_seq, enter_group, enter_capture, enter_repeat, branch_begun, branch_last, branch_more, Alike, Alone, IsAgreed, catching_same, branches_by, All-at, part_paths, kid_paths, plain_kids, begun_state, first_state, first_plain, branched_group, branches_in}
-use Rattle.frame_state.proofs.Frames.{focus_towards, running_towards, around_here, around_push, heard_push, focus_framed, sound_less, caught_push, hand_same, hand_frame, hand_begun, caught_through, around_with, inside_of, outside_push, after_agrees, rest_all, later_more, later_push, later_none, contained_push, contained_none}
-use Rattle.frame_state.proofs.Advance.{goes_pause, advance_from, holding_room, holding_full, advance_pause, advance_step, over_steps, over_units, over_units_step, goes_on, stays}
+use Rattle.frame_state.proofs.PartPaths.{enter_empty, enter_keep, enter_one, enter_break, enter_anchor, enter_ref}
+use Rattle.frame_state.proofs.PartPaths.{enter_seq_none, enter_seq, enter_group, enter_capture, enter_repeat}
+use Rattle.frame_state.proofs.PartPaths.{branch_begun, branch_last, branch_more, Alike, Alone, IsAgreed}
+use Rattle.frame_state.proofs.PartPaths.{catching_same, branches_by, All-at, part_paths, kid_paths, plain_kids}
+use Rattle.frame_state.proofs.PartPaths.{begun_state, first_state, first_plain, branched_group, branches_in}
+use Rattle.frame_state.proofs.Frames.{focus_towards, running_towards, around_here, around_push, heard_push}
+use Rattle.frame_state.proofs.Frames.{focus_framed, sound_less, caught_push, hand_same, hand_frame, hand_begun}
+use Rattle.frame_state.proofs.Frames.{caught_through, around_with, inside_of, outside_push, after_agrees, rest_all}
+use Rattle.frame_state.proofs.Frames.{later_more, later_push, later_none, contained_push, contained_none}
+use Rattle.frame_state.proofs.Advance.{goes_pause, advance_from, holding_room, holding_full, advance_pause}
+use Rattle.frame_state.proofs.Advance.{advance_step, over_steps, over_units, over_units_step, goes_on, stays}
 use Rattle.frame_store.specs.Undo.{taken_back}
 use Rattle.ordered_search.specs.Paths.{branch_paths}
 
 module _ (c : Ground) (ok : IsGround c) where
-  stands_item : (item : Item) (p : ℕ) (o : Option ℕ) → c.stands p ≡ true → after_item c.setting.scene item p ≡ o → StandsIf c o
+  stands_item : (item : Item) (p : ℕ) (o : Option ℕ) → c.stands p ≡ true → after_item c.setting.scene item p ≡ o
+      → StandsIf c o
   stands_item item p None h e = tt
   stands_item item p (Some r) h e = (ok.forward item p r h e).1
 
@@ -58,23 +74,31 @@ module _ (c : Ground) (ok : IsGround c) where
   pub stands_set : (caps : Captures) (ns : List ℕ) → AreSpans c caps → SpanStands c (first_set caps ns)
   stands_set caps [] a = tt
   stands_set caps (n ∷ ns) a =
-      (elim (capture caps n) as (λ o. SpanStands c o → SpanStands c (let z : Option Span = elim o [ None ↦ first_set caps ns | Some span ↦ Some span ] in z)) [
+      (elim (capture caps n) as (λ o. SpanStands c o → SpanStands c
+      (let z : Option Span = elim o [ None ↦ first_set caps ns | Some span ↦ Some span ] in z)) [
         | None ↦ λ h. stands_set caps ns a
         | Some span ↦ λ h. h
       ]) (stands_capture caps (n - 1) a)
 
   stands_refer : (o : Option Span) (b caseless : Bool) (p : ℕ) → c.stands p ≡ true → SpanStands c o → (r : Option ℕ) →
-      r ≡ elim o [ None ↦ if b then Some p else None | Some span ↦ after_ref c.setting.scene span.from span.to caseless p ] → StandsIf c r
+      r ≡ elim o [
+        | None ↦ if b then Some p else None
+        | Some span ↦
+            after_ref c.setting.scene span.from span.to caseless p
+      ] → StandsIf c r
   stands_refer None true caseless p h a r e = subst (StandsIf c) (sym e) h
   stands_refer None false caseless p h a r e = subst (StandsIf c) (sym e) tt
-  stands_refer (Some span) b caseless p h a r e = subst (StandsIf c) (sym e) (ok.refers span.from span.to p caseless a.0 a.1 h)
+  stands_refer (Some span) b caseless p h a r e = subst (StandsIf c) (sym e)
+      (ok.refers span.from span.to p caseless a.0 a.1 h)
 
 -- what verbs lead to is the same in the parts of a sequence
-pub alike : (c : Ground) (stack : List Entry) (caps : Captures) (l q : ℕ) (ks : List ℕ) → All (λ k. c.branch k ≡ c.branch q) ks → Alike c (outside c stack caps l) q ks
+pub alike : (c : Ground) (stack : List Entry) (caps : Captures) (l q : ℕ) (ks : List ℕ)
+    → All (λ k. c.branch k ≡ c.branch q) ks → Alike c (outside c stack caps l) q ks
 alike c stack caps l q ks same = λ i d h. hand_same c stack caps l (get_or ks i d) q (same i d h)
 
 -- and in a branch that is alone
-pub alone : (c : Ground) (stack : List Entry) (caps : Captures) (l : ℕ) (k : Follow) (ks : List ℕ) (o : Option ℕ) (h : Handler) → All (λ p. c.branch p ≡ branch_if ks o p) ks →
+pub alone : (c : Ground) (stack : List Entry) (caps : Captures) (l : ℕ) (k : Follow) (ks : List ℕ) (o : Option ℕ)
+    (h : Handler) → All (λ p. c.branch p ≡ branch_if ks o p) ks →
     ((p : ℕ) → c.branch p ≡ o → hand c stack caps l p ≡ h) → Alone c (around_with c k (hand c stack caps l)) ks h
 alone c stack caps l k [] o h own same = tt
 alone c stack caps l k (p ∷ []) o h own same = same p (All-head (λ x. c.branch x ≡ o) p [] own)
@@ -82,14 +106,24 @@ alone c stack caps l k (p ∷ p' ∷ ps) o h own same = tt
 
 -- What verbs lead to but for THEN is the frame's in each part.
 
-pub agreed_frame : (c : Ground) (stack : List Entry) (caps : Captures) (l p : ℕ) (h : Handler) → h ≡ caught c stack caps l → IsAgreed c h (hand c stack caps l p)
+pub agreed_frame : (c : Ground) (stack : List Entry) (caps : Captures) (l p : ℕ) (h : Handler)
+    → h ≡ caught c stack caps l → IsAgreed c h (hand c stack caps l p)
 agreed_frame c stack caps l p h e =
-    record { prune = ap (λ (z : Handler). z prune) e; skip = λ n. ap (λ (z : Handler). z (skip n)) e; commit = ap (λ (z : Handler). z commit) e }
+    record {
+      prune = ap (λ (z : Handler). z prune) e;
+      skip = λ n. ap (λ (z : Handler). z (skip n)) e;
+      commit = ap (λ (z : Handler). z commit) e;
+    }
 
-agreed_hands : (c : Ground) (stack other : List Entry) (caps now : Captures) (l p : ℕ) → caught c stack caps l ≡ caught c other now l →
+agreed_hands : (c : Ground) (stack other : List Entry) (caps now : Captures) (l p : ℕ)
+    → caught c stack caps l ≡ caught c other now l →
     IsAgreed c (hand c stack caps l p) (hand c other now l p)
 agreed_hands c stack other caps now l p e =
-    record { prune = ap (λ (z : Handler). z prune) e; skip = λ n. ap (λ (z : Handler). z (skip n)) e; commit = ap (λ (z : Handler). z commit) e }
+    record {
+      prune = ap (λ (z : Handler). z prune) e;
+      skip = λ n. ap (λ (z : Handler). z (skip n)) e;
+      commit = ap (λ (z : Handler). z commit) e;
+    }
 
 -- A branch is begun: where it begins stands.
 
@@ -103,12 +137,15 @@ module _ (c : Ground) (ok : IsGround c) where
 
   begun_ahead : (b : Bool) (to : Option ℕ) (p : ℕ) (spot : Spot) (stack : List Entry) (caps : Captures) →
       ahead c (conf (begun_next b to p) (begun_spot b to spot) stack caps)
-      ≡ focus c (begun_next b to p) (around c stack spot.frame).depth (outside c stack caps spot.frame) (state_at (around_at c stack spot.frame spot.passed) (kept_at (begun_spot b to spot)) caps) (fail c stack caps)
+      ≡ focus c (begun_next b to p) (around c stack spot.frame).depth (outside c stack caps spot.frame)
+      (state_at (around_at c stack spot.frame spot.passed) (kept_at (begun_spot b to spot)) caps)
+      (fail c stack caps)
   begun_ahead false to p spot stack caps = refl
   begun_ahead true None p spot stack caps = refl
   begun_ahead true (Some place) p spot stack caps = refl
 
-  begun_kept : (b : Bool) (to : Option ℕ) (a : Around) (spot : Spot) (caps : Captures) → state_at a (kept_at (begun_spot b to spot)) caps ≡ begun_state c b to (state_at a (kept_at spot) caps)
+  begun_kept : (b : Bool) (to : Option ℕ) (a : Around) (spot : Spot) (caps : Captures)
+      → state_at a (kept_at (begun_spot b to spot)) caps ≡ begun_state c b to (state_at a (kept_at spot) caps)
   begun_kept false to a spot caps = refl
   begun_kept true None a spot caps = refl
   begun_kept true (Some place) a spot caps = refl
@@ -128,88 +165,140 @@ module _ (c : Ground) (ok : IsGround c) where
   begun_told true None spot = refl
   begun_told true (Some place) spot = refl
 
-  begun_valid : (b : Bool) (to : Option ℕ) → StandsIf c to → (p : ℕ) (spot : Spot) (stack : List Entry) (caps : Captures) →
-      IsValid c (conf (Enter p) spot stack caps) → IsValid c (conf (begun_next b to p) (begun_spot b to spot) stack caps)
+  begun_valid : (b : Bool) (to : Option ℕ) → StandsIf c to
+      → (p : ℕ) (spot : Spot) (stack : List Entry) (caps : Captures) →
+      IsValid c (conf (Enter p) spot stack caps)
+      → IsValid c (conf (begun_next b to p) (begun_spot b to spot) stack caps)
   begun_valid false to h p spot stack caps v = v
-  begun_valid true None h p spot stack caps v = record { running = tt; records = v.records; spans = v.spans; slots = v.slots }
+  begun_valid true None h p spot stack caps v = record {
+    running = tt;
+    records = v.records;
+    spans = v.spans;
+    slots = v.slots;
+  }
   begun_valid true (Some place) h p spot stack caps v =
       let w = v.running.1 in
       record {
-        running = (v.running.0, record { inside = w.inside; deep = w.deep; counted = w.counted; few = w.few; here = h; marked = w.marked; contained = w.contained }, v.running.2);
+        running = (
+          v.running.0,
+          record {
+            inside = w.inside;
+            deep = w.deep;
+            counted = w.counted;
+            few = w.few;
+            here = h;
+            marked = w.marked;
+            contained = w.contained;
+          },
+          v.running.2,
+        );
         records = v.records;
         spans = v.spans;
         slots = v.slots;
       }
 
 -- a part is run
-module _ (c : Ground) (ok : IsGround c) (q : ℕ) (spot : Spot) (stack : List Entry) (caps : Captures) (v : IsValid c (conf (Enter q) spot stack caps)) (n : Node) (i : IsNode c q n) where
+module _ (c : Ground) (ok : IsGround c) (q : ℕ) (spot : Spot) (stack : List Entry) (caps : Captures)
+    (v : IsValid c (conf (Enter q) spot stack caps)) (n : Node) (i : IsNode c q n) where
   pub deep : (around c stack spot.frame).depth ≡ suc ((around c stack spot.frame).depth - 1)
   deep = omega (arith, v.running.1.deep)
 
   -- at another place
   moved_standing : (p : ℕ) → c.stands p ≡ true → IsRunning c (record spot { place = p }) stack End
-  moved_standing p h = let w = v.running.1 in record { inside = w.inside; deep = w.deep; counted = w.counted; few = w.few; here = h; marked = w.marked; contained = w.contained }
+  moved_standing p h = let w = v.running.1 in record {
+    inside = w.inside;
+    deep = w.deep;
+    counted = w.counted;
+    few = w.few;
+    here = h;
+    marked = w.marked;
+    contained = w.contained;
+  }
 
   -- what follows a test, which led to a place
   abbrev gone : Option ℕ → Moves
-  gone o = going o (spot_state c spot stack caps) (past c (around c stack spot.frame).depth (outside c stack caps spot.frame) q) (fail c stack caps)
+  gone o = going o (spot_state c spot stack caps)
+      (past c (around c stack spot.frame).depth (outside c stack caps spot.frame) q) (fail c stack caps)
 
   turn_going : (b : Bool) (o : Option ℕ) (met : Met) → StandsIf c o → IsNoted c b spot.early spot.last met →
       ahead c (conf (Enter q) spot stack caps) ≡ pause (reaching c.setting b (spot_state c spot stack caps) (gone o)) →
-      Advances c (conf (Enter q) spot stack caps) (conf (moved_next c q o) (moved_spot (record spot { last = met }) o) stack caps)
+      Advances c (conf (Enter q) spot stack caps)
+      (conf (moved_next c q o) (moved_spot (record spot { last = met }) o) stack caps)
   turn_going b None met h w e =
-      advance_noted c _ (conf Back (record spot { last = met }) stack caps) b spot.early (spot_state c spot stack caps) _ e refl w refl refl
+      advance_noted c _ (conf Back (record spot { last = met }) stack caps) b spot.early
+      (spot_state c spot stack caps) _ e refl w refl refl
       (record { running = tt; records = v.records; spans = v.spans; slots = v.slots })
   turn_going b (Some p) met h w e =
       let to : Spot = record spot { place = p; last = met } in
-      advance_noted c _ (conf (towards (next_of c q)) to stack caps) b spot.early (spot_state c spot stack caps) _ e refl w
+      advance_noted c _ (conf (towards (next_of c q)) to stack caps) b spot.early (spot_state c spot stack caps) _ e
+      refl w
       (focus_towards c ok q v.running.0 _ _ _ _) refl
-      (record { running = running_towards c ok q v.running.0 to stack v.running.2 (moved_standing p h); records = v.records; spans = v.spans; slots = v.slots })
+      (record {
+        running = running_towards c ok q v.running.0 to stack v.running.2 (moved_standing p h);
+        records = v.records;
+        spans = v.spans;
+        slots = v.slots;
+      })
 
   -- a test that was made, asked for the end only where partial matches are looked for
   module _ (b r : Bool) (asked : r ≡ (asks c.setting && b)) (o : Option ℕ)
-      (e : ahead c (conf (Enter q) spot stack caps) ≡ pause (reaching c.setting b (spot_state c spot stack caps) (gone o))) where
+      (e : ahead c (conf (Enter q) spot stack caps) ≡ pause
+      (reaching c.setting b (spot_state c spot stack caps) (gone o))) where
     tested : StandsIf c o → (to : Option ℕ) → to ≡ o → (next : Next) (new : Spot) → IsTested c q r to spot next new →
         Advances c (conf (Enter q) spot stack caps) (conf next new stack caps)
     tested h to same next new t =
-        subst (λ x. Advances c (conf (Enter q) spot stack caps) (conf x new stack caps)) (sym (t.goes ∙ ap (moved_next c q) same))
-        (subst (λ x. Advances c (conf (Enter q) spot stack caps) (conf (moved_next c q o) x stack caps)) (sym (t.moves ∙ ap (moved_spot (record spot { last = t.met })) same))
+        subst (λ x. Advances c (conf (Enter q) spot stack caps) (conf x new stack caps))
+        (sym (t.goes ∙ ap (moved_next c q) same))
+        (subst (λ x. Advances c (conf (Enter q) spot stack caps) (conf (moved_next c q o) x stack caps))
+        (sym (t.moves ∙ ap (moved_spot (record spot { last = t.met })) same))
         (turn_going b o t.met h (noted_asked c b r asked spot.early spot.last t.met t.noted) e))
 
-    test_stops : (new : Spot) (s : Stop) → IsHardStop c r spot.early spot.last new.last s → IsStop s new caps (tells c.setting spot (ahead c (conf (Enter q) spot stack caps)))
+    test_stops : (new : Spot) (s : Stop) → IsHardStop c r spot.early spot.last new.last s
+        → IsStop s new caps (tells c.setting spot (ahead c (conf (Enter q) spot stack caps)))
     test_stops new s h =
-        stop_noted c (conf (Enter q) spot stack caps) b spot.early (spot_state c spot stack caps) (gone o) e refl new caps s
+        stop_noted c (conf (Enter q) spot stack caps) b spot.early (spot_state c spot stack caps) (gone o) e refl new
+        caps s
         (stop_asked c b r asked spot.early spot.last new.last s h)
 
   module _ (item : Item) (e : n ≡ node.One item) where
     entered_one : ahead c (conf (Enter q) spot stack caps)
-        ≡ pause (reaching c.setting (item_reaches c.setting.scene item spot.place) (spot_state c spot stack caps) (gone (after_item c.setting.scene item spot.place)))
+        ≡ pause (reaching c.setting (item_reaches c.setting.scene item spot.place) (spot_state c spot stack caps)
+        (gone (after_item c.setting.scene item spot.place)))
     entered_one = enter_one c ok q n i _ _ _ _ _ deep item e
 
     -- where partial matches are not looked for
     pub turn_one_off : c.setting.matching.«partial» ≡ Off →
-        Advances c (conf (Enter q) spot stack caps) (conf (moved_next c q (after_item c.setting.scene item spot.place)) (moved_spot spot (after_item c.setting.scene item spot.place)) stack caps)
+        Advances c (conf (Enter q) spot stack caps)
+        (conf (moved_next c q (after_item c.setting.scene item spot.place))
+        (moved_spot spot (after_item c.setting.scene item spot.place)) stack caps)
     turn_one_off off =
-        turn_going _ _ spot.last (stands_item c ok item spot.place _ v.running.1.here refl) (noted_off c off _ spot.early spot.last) entered_one
+        turn_going _ _ spot.last (stands_item c ok item spot.place _ v.running.1.here refl)
+        (noted_off c off _ spot.early spot.last) entered_one
 
     module _ (r : Bool) (asked : r ≡ (asks c.setting && item_reaches c.setting.scene item spot.place)) where
-      pub turn_one : (to : Option ℕ) → to ≡ after_item c.setting.scene item spot.place → (next : Next) (new : Spot) → IsTested c q r to spot next new →
+      pub turn_one : (to : Option ℕ) → to ≡ after_item c.setting.scene item spot.place → (next : Next) (new : Spot)
+          → IsTested c q r to spot next new →
           Advances c (conf (Enter q) spot stack caps) (conf next new stack caps)
       turn_one = tested _ r asked _ entered_one (stands_item c ok item spot.place _ v.running.1.here refl)
 
-      pub stop_one : (new : Spot) (s : Stop) → IsHardStop c r spot.early spot.last new.last s → IsStop s new caps (tells c.setting spot (ahead c (conf (Enter q) spot stack caps)))
+      pub stop_one : (new : Spot) (s : Stop) → IsHardStop c r spot.early spot.last new.last s
+          → IsStop s new caps (tells c.setting spot (ahead c (conf (Enter q) spot stack caps)))
       stop_one = test_stops _ r asked _ entered_one
 
-  module _ (e : n ≡ node.Break) (r : Bool) (asked : r ≡ (asks c.setting && break_reaches c.setting.scene spot.place)) where
+  module _ (e : n ≡ node.Break) (r : Bool)
+      (asked : r ≡ (asks c.setting && break_reaches c.setting.scene spot.place)) where
     entered_break : ahead c (conf (Enter q) spot stack caps)
-        ≡ pause (reaching c.setting (break_reaches c.setting.scene spot.place) (spot_state c spot stack caps) (gone (after_break c.setting.scene spot.place)))
+        ≡ pause (reaching c.setting (break_reaches c.setting.scene spot.place) (spot_state c spot stack caps)
+        (gone (after_break c.setting.scene spot.place)))
     entered_break = enter_break c ok q n i _ _ _ _ _ deep e
 
-    pub turn_break : (to : Option ℕ) → to ≡ after_break c.setting.scene spot.place → (next : Next) (new : Spot) → IsTested c q r to spot next new →
+    pub turn_break : (to : Option ℕ) → to ≡ after_break c.setting.scene spot.place → (next : Next) (new : Spot)
+        → IsTested c q r to spot next new →
         Advances c (conf (Enter q) spot stack caps) (conf next new stack caps)
     turn_break = tested _ r asked _ entered_break (ok.breaks spot.place v.running.1.here)
 
-    pub stop_break : (new : Spot) (s : Stop) → IsHardStop c r spot.early spot.last new.last s → IsStop s new caps (tells c.setting spot (ahead c (conf (Enter q) spot stack caps)))
+    pub stop_break : (new : Spot) (s : Stop) → IsHardStop c r spot.early spot.last new.last s
+        → IsStop s new caps (tells c.setting spot (ahead c (conf (Enter q) spot stack caps)))
     stop_break = test_stops _ r asked _ entered_break
 
   -- where a reference leads to
@@ -217,34 +306,47 @@ module _ (c : Ground) (ok : IsGround c) (q : ℕ) (spot : Spot) (stack : List En
   referred None caseless = if c.setting.options.match_unset_backref then Some spot.place else None
   referred (Some span) caseless = after_ref c.setting.scene span.from span.to caseless spot.place
 
-  ref_going : (o : Option Span) (caseless b : Bool) (s : State) (k : Follow) (f : Moves) → c.setting.options.match_unset_backref ≡ b → s.place ≡ spot.place → record s { place = spot.place } ≡ s →
+  ref_going : (o : Option Span) (caseless b : Bool) (s : State) (k : Follow) (f : Moves)
+      → c.setting.options.match_unset_backref ≡ b → s.place ≡ spot.place → record s { place = spot.place } ≡ s →
       elim o [
         | None ↦ elim b [ true ↦ k reached s f | false ↦ f ]
         | Some span ↦ going (after_ref c.setting.scene span.from span.to caseless s.place) s k f
       ] ≡ going (referred o caseless) s k f
-  ref_going None caseless true s k f e here same = ap (λ t. k reached t f) (sym same) ∙ ap (λ (x : Bool). going (if x then Some spot.place else None) s k f) (sym e)
-  ref_going None caseless false s k f e here same = ap (λ (x : Bool). going (if x then Some spot.place else None) s k f) (sym e)
-  ref_going (Some span) caseless b s k f e here same = ap (λ p. going (after_ref c.setting.scene span.from span.to caseless p) s k f) here
+  ref_going None caseless true s k f e here same = ap (λ t. k reached t f) (sym same)
+      ∙ ap (λ (x : Bool). going (if x then Some spot.place else None) s k f) (sym e)
+  ref_going None caseless false s k f e here same =
+      ap (λ (x : Bool). going (if x then Some spot.place else None) s k f) (sym e)
+  ref_going (Some span) caseless b s k f e here same =
+      ap (λ p. going (after_ref c.setting.scene span.from span.to caseless p) s k f) here
 
-  referred_stands : (o : Option Span) (caseless b : Bool) → c.setting.options.match_unset_backref ≡ b → SpanStands c o → StandsIf c (referred o caseless)
-  referred_stands None caseless true e a = subst (λ (x : Bool). StandsIf c (if x then Some spot.place else None)) (sym e) v.running.1.here
-  referred_stands None caseless false e a = subst (λ (x : Bool). StandsIf c (if x then Some spot.place else None)) (sym e) tt
+  referred_stands : (o : Option Span) (caseless b : Bool) → c.setting.options.match_unset_backref ≡ b → SpanStands c o
+      → StandsIf c (referred o caseless)
+  referred_stands None caseless true e a = subst (λ (x : Bool). StandsIf c (if x then Some spot.place else None))
+      (sym e) v.running.1.here
+  referred_stands None caseless false e a = subst (λ (x : Bool). StandsIf c (if x then Some spot.place else None))
+      (sym e) tt
   referred_stands (Some span) caseless b e a = ok.refers span.from span.to spot.place caseless a.0 a.1 v.running.1.here
 
   module _ (ns : List ℕ) (caseless : Bool) (e : n ≡ node.Ref ns caseless) where
     entered_ref : ahead c (conf (Enter q) spot stack caps)
-        ≡ pause (reaching c.setting (referred_reaches c spot.place (first_set caps ns) caseless) (spot_state c spot stack caps) (gone (referred (first_set caps ns) caseless)))
+        ≡ pause (reaching c.setting (referred_reaches c spot.place (first_set caps ns) caseless)
+        (spot_state c spot stack caps) (gone (referred (first_set caps ns) caseless)))
     entered_ref =
         enter_ref c ok q n i _ _ _ _ _ deep ns caseless e
-        ∙ ap (λ (x : Moves). pause (reaching c.setting (referred_reaches c spot.place (first_set caps ns) caseless) (spot_state c spot stack caps) x))
+        ∙ ap (λ (x : Moves). pause (reaching c.setting (referred_reaches c spot.place (first_set caps ns) caseless)
+        (spot_state c spot stack caps) x))
         (ref_going (first_set caps ns) caseless c.setting.options.match_unset_backref _ _ _ refl refl refl)
 
     pub turn_ref : (next : Next) (new : Spot) →
-        IsTested c q (asks c.setting && referred_reaches c spot.place (first_set caps ns) caseless) (referred (first_set caps ns) caseless) spot next new →
+        IsTested c q (asks c.setting && referred_reaches c spot.place (first_set caps ns) caseless)
+        (referred (first_set caps ns) caseless) spot next new →
         Advances c (conf (Enter q) spot stack caps) (conf next new stack caps)
-    turn_ref = tested _ _ refl _ entered_ref (referred_stands (first_set caps ns) caseless _ refl (stands_set c ok caps ns v.spans)) _ refl
+    turn_ref = tested _ _ refl _ entered_ref
+        (referred_stands (first_set caps ns) caseless _ refl (stands_set c ok caps ns v.spans)) _ refl
 
-    pub stop_ref : (new : Spot) (s : Stop) → IsHardStop c (asks c.setting && referred_reaches c spot.place (first_set caps ns) caseless) spot.early spot.last new.last s →
+    pub stop_ref : (new : Spot) (s : Stop)
+        → IsHardStop c (asks c.setting && referred_reaches c spot.place (first_set caps ns) caseless) spot.early
+        spot.last new.last s →
         IsStop s new caps (tells c.setting spot (ahead c (conf (Enter q) spot stack caps)))
     stop_ref = test_stops _ _ refl _ entered_ref
 
@@ -255,56 +357,86 @@ module _ (c : Ground) (ok : IsGround c) (q : ℕ) (spot : Spot) (stack : List En
     abbrev held : Bool → Moves
     held b =
         elim b [
-          | true ↦ past c (around c stack spot.frame).depth (outside c stack caps spot.frame) q reached looked (fail c stack caps)
+          | true ↦ past c (around c stack spot.frame).depth (outside c stack caps spot.frame) q reached looked
+              (fail c stack caps)
           | false ↦ fail c stack caps
         ]
 
     entered_anchor : ahead c (conf (Enter q) spot stack caps)
-        ≡ pause (reaching c.setting (anchor_reaches c.setting.scene kind spot.place) looked (held (holds c.setting.scene kind spot.place)))
+        ≡ pause (reaching c.setting (anchor_reaches c.setting.scene kind spot.place) looked
+        (held (holds c.setting.scene kind spot.place)))
     entered_anchor = enter_anchor c ok q n i _ _ _ _ _ deep kind e
 
     turn_held : (met : Met) → IsNoted c (anchor_reaches c.setting.scene kind spot.place) looked.early spot.last met →
         (b : Bool) → holds c.setting.scene kind spot.place ≡ b →
-        Advances c (conf (Enter q) spot stack caps) (conf (held_next c q b) (held_early c kind (record spot { last = met }) b) stack caps)
+        Advances c (conf (Enter q) spot stack caps)
+        (conf (held_next c q b) (held_early c kind (record spot { last = met }) b) stack caps)
     turn_held met w true h =
         let to : Spot = record spot { early = earliest c.setting.scene kind spot.place spot.early; last = met } in
         let stands = v.running.1 in
         advance_noted c _ (conf (towards (next_of c q)) to stack caps) _ _ looked _
-        (entered_anchor ∙ ap (λ b. pause (reaching c.setting (anchor_reaches c.setting.scene kind spot.place) looked (held b))) h) refl w
+        (entered_anchor
+        ∙ ap (λ b. pause (reaching c.setting (anchor_reaches c.setting.scene kind spot.place) looked (held b)))
+        h) refl w
         (focus_towards c ok q v.running.0 _ _ _ _) refl
         (record {
           running = running_towards c ok q v.running.0 to stack v.running.2
-              (record { inside = stands.inside; deep = stands.deep; counted = stands.counted; few = stands.few; here = stands.here; marked = stands.marked; contained = stands.contained });
+              (record {
+                inside = stands.inside;
+                deep = stands.deep;
+                counted = stands.counted;
+                few = stands.few;
+                here = stands.here;
+                marked = stands.marked;
+                contained = stands.contained;
+              });
           records = v.records;
           spans = v.spans;
           slots = v.slots;
         })
     turn_held met w false h =
         advance_noted c _ (conf Back (record spot { last = met }) stack caps) _ _ looked _
-        (entered_anchor ∙ ap (λ b. pause (reaching c.setting (anchor_reaches c.setting.scene kind spot.place) looked (held b))) h) refl w refl refl
+        (entered_anchor
+        ∙ ap (λ b. pause (reaching c.setting (anchor_reaches c.setting.scene kind spot.place) looked (held b)))
+        h) refl w refl refl
         (record { running = tt; records = v.records; spans = v.spans; slots = v.slots })
 
-    pub turn_anchor : (next : Next) (new : Spot) → IsAnchored c q kind spot next new → Advances c (conf (Enter q) spot stack caps) (conf next new stack caps)
+    pub turn_anchor : (next : Next) (new : Spot) → IsAnchored c q kind spot next new
+        → Advances c (conf (Enter q) spot stack caps) (conf next new stack caps)
     turn_anchor next new t =
         subst (λ x. Advances c (conf (Enter q) spot stack caps) (conf x new stack caps)) (sym t.goes)
-        (subst (λ x. Advances c (conf (Enter q) spot stack caps) (conf (held_next c q (holds c.setting.scene kind spot.place)) x stack caps)) (sym t.moves)
-        (turn_held t.met (noted_asked c (anchor_reaches c.setting.scene kind spot.place) _ refl _ spot.last t.met t.noted) _ refl))
+        (subst (λ x. Advances c (conf (Enter q) spot stack caps)
+        (conf (held_next c q (holds c.setting.scene kind spot.place)) x stack caps)) (sym t.moves)
+        (turn_held t.met (noted_asked c (anchor_reaches c.setting.scene kind spot.place) _ refl _ spot.last t.met
+        t.noted) _ refl))
 
     pub stop_anchor : (new : Spot) (s : Stop) →
-        IsHardStop c (asks c.setting && anchor_reaches c.setting.scene kind spot.place) (earliest c.setting.scene kind spot.place spot.early) spot.last new.last s →
+        IsHardStop c (asks c.setting && anchor_reaches c.setting.scene kind spot.place)
+        (earliest c.setting.scene kind spot.place spot.early) spot.last new.last s →
         IsStop s new caps (tells c.setting spot (ahead c (conf (Enter q) spot stack caps)))
     stop_anchor new s h =
         stop_noted c (conf (Enter q) spot stack caps) _ _ looked _ entered_anchor refl new caps s
         (stop_asked c (anchor_reaches c.setting.scene kind spot.place) _ refl _ spot.last new.last s h)
 
-  pub turn_empty : n ≡ node.Empty → Advances c (conf (Enter q) spot stack caps) (conf (towards (next_of c q)) spot stack caps)
-  turn_empty e = goes_on c _ spot stack caps v.records v.spans v.slots ok q v.running.0 v.running.2 v.running.1 refl (enter_empty c ok q n i _ _ _ _ _ deep e)
+  pub turn_empty : n ≡ node.Empty → Advances c (conf (Enter q) spot stack caps)
+      (conf (towards (next_of c q)) spot stack caps)
+  turn_empty e = goes_on c _ spot stack caps v.records v.spans v.slots ok q v.running.0 v.running.2 v.running.1 refl
+      (enter_empty c ok q n i _ _ _ _ _ deep e)
 
-  pub turn_keep : n ≡ node.KeepOut → Advances c (conf (Enter q) spot stack caps) (conf (towards (next_of c q)) (record spot { keep = spot.place }) stack caps)
+  pub turn_keep : n ≡ node.KeepOut → Advances c (conf (Enter q) spot stack caps)
+      (conf (towards (next_of c q)) (record spot { keep = spot.place }) stack caps)
   turn_keep e =
       let w = v.running.1 in
       goes_on c _ (record spot { keep = spot.place }) stack caps v.records v.spans v.slots ok q v.running.0 v.running.2
-      (record { inside = w.inside; deep = w.deep; counted = w.counted; few = w.few; here = w.here; marked = w.marked; contained = w.contained }) refl (enter_keep c ok q n i _ _ _ _ _ deep e)
+      (record {
+        inside = w.inside;
+        deep = w.deep;
+        counted = w.counted;
+        few = w.few;
+        here = w.here;
+        marked = w.marked;
+        contained = w.contained;
+      }) refl (enter_keep c ok q n i _ _ _ _ _ deep e)
 
   kids_are : (ks : List ℕ) → kids_of n ≡ ks → All (IsPart c) ks
   kids_are ks e = subst (All (IsPart c)) e (kid_parts c q n v.running.0 i)
@@ -314,45 +446,70 @@ module _ (c : Ground) (ok : IsGround c) (q : ℕ) (spot : Spot) (stack : List En
 
   kid_later : (ks : List ℕ) (p : ℕ) → kids_of n ≡ p ∷ ks → IsLater c spot.frame p stack
   kid_later ks p e =
-      let first : c.rank q < c.rank p = All-head (λ k. c.rank q < c.rank k) p ks (subst (All (λ k. c.rank q < c.rank k)) e (kid_ranks c q n i)) in
+      let first : c.rank q < c.rank p = All-head (λ k. c.rank q < c.rank k) p ks
+      (subst (All (λ k. c.rank q < c.rank k)) e (kid_ranks c q n i)) in
       later_more c spot.frame q p stack (omega (arith, first)) v.running.2
 
-  pub turn_seq_none : n ≡ node.Seq [] → Advances c (conf (Enter q) spot stack caps) (conf (towards (next_of c q)) spot stack caps)
-  turn_seq_none e = goes_on c _ spot stack caps v.records v.spans v.slots ok q v.running.0 v.running.2 v.running.1 refl (enter_seq_none c q n i _ _ _ _ _ deep e)
+  pub turn_seq_none : n ≡ node.Seq [] → Advances c (conf (Enter q) spot stack caps)
+      (conf (towards (next_of c q)) spot stack caps)
+  turn_seq_none e = goes_on c _ spot stack caps v.records v.spans v.slots ok q v.running.0 v.running.2 v.running.1
+      refl (enter_seq_none c q n i _ _ _ _ _ deep e)
 
-  pub turn_seq : (p : ℕ) (ps : List ℕ) → n ≡ node.Seq (p ∷ ps) → Advances c (conf (Enter q) spot stack caps) (conf (Enter p) spot stack caps)
+  pub turn_seq : (p : ℕ) (ps : List ℕ) → n ≡ node.Seq (p ∷ ps)
+      → Advances c (conf (Enter q) spot stack caps) (conf (Enter p) spot stack caps)
   turn_seq p ps e =
-      advance_pause c _ _ _ (enter_seq c q n i _ _ _ _ _ deep p ps (alike c stack caps spot.frame q (p ∷ ps) (branches_by c q n i (node.Seq (p ∷ ps)) e)) e) refl refl
-      (record { running = (kid_inside ps p (ap kids_of e), v.running.1, kid_later ps p (ap kids_of e)); records = v.records; spans = v.spans; slots = v.slots })
+      advance_pause c _ _ _ (enter_seq c q n i _ _ _ _ _ deep p ps
+      (alike c stack caps spot.frame q (p ∷ ps) (branches_by c q n i (node.Seq (p ∷ ps)) e)) e) refl refl
+      (record {
+        running = (kid_inside ps p (ap kids_of e), v.running.1, kid_later ps p (ap kids_of e));
+        records = v.records;
+        spans = v.spans;
+        slots = v.slots;
+      })
 
-  pub turn_parts : (ks : List ℕ) → n ≡ node.Seq ks → Advances c (conf (Enter q) spot stack caps) (conf (part_next c q ks) spot stack caps)
+  pub turn_parts : (ks : List ℕ) → n ≡ node.Seq ks → Advances c (conf (Enter q) spot stack caps)
+      (conf (part_next c q ks) spot stack caps)
   turn_parts [] e = turn_seq_none e
   turn_parts (p ∷ ps) e = turn_seq p ps e
 
   -- where branches begin
-  first_running : (p : ℕ) (ks : List ℕ) → IsPart c p → All (IsPart c) ks → IsBranched c p ks → (spot' : Spot) (stack' : List Entry) → StandsAt c spot' stack' (around c stack' spot'.frame).depth →
+  first_running : (p : ℕ) (ks : List ℕ) → IsPart c p → All (IsPart c) ks → IsBranched c p ks
+      → (spot' : Spot) (stack' : List Entry) → StandsAt c spot' stack' (around c stack' spot'.frame).depth →
       IsLater c spot'.frame p stack' → IsRunning c spot' stack' (first_next p ks)
   first_running p [] inside parts b spot' stack' w l = tt
   first_running p (x ∷ []) inside parts b spot' stack' w l =
       let lt : c.rank p < c.rank x = All-head (λ k. c.rank p < c.rank k) x [] b.behind in
       (All-head (IsPart c) x [] parts, w, later_more c spot'.frame p x stack' (omega (arith, lt)) l)
-  first_running p (x ∷ y ∷ ps) inside parts b spot' stack' w l =
-      (inside, w, (subst (λ r. 0 < row_length r) (sym b.rows) (omega arith), subst (λ r. 1 < row_length r) (sym b.rows) (omega arith)), l)
+  first_running p (x ∷ y ∷ ps) inside parts b spot' stack' w l = (
+    inside,
+    w,
+    (
+      subst (λ r. 0 < row_length r) (sym b.rows) (omega arith),
+      subst (λ r. 1 < row_length r) (sym b.rows) (omega arith),
+    ),
+    l,
+  )
 
-  first_valid : (b : Bool) (p : ℕ) (ks : List ℕ) (spot' : Spot) (stack' : List Entry) (caps' : Captures) → c.stands spot'.place ≡ true →
-      IsValid c (conf (first_next p ks) spot' stack' caps') → IsValid c (conf (first_begun c b p ks spot'.place) (first_spot c b ks spot') stack' caps')
+  first_valid : (b : Bool) (p : ℕ) (ks : List ℕ) (spot' : Spot) (stack' : List Entry) (caps' : Captures)
+      → c.stands spot'.place ≡ true →
+      IsValid c (conf (first_next p ks) spot' stack' caps')
+      → IsValid c (conf (first_begun c b p ks spot'.place) (first_spot c b ks spot') stack' caps')
   first_valid b p [] spot' stack' caps' h w = w
-  first_valid b p (x ∷ []) spot' stack' caps' h w = begun_valid c ok b (begun_place c x spot'.place) (stands_at c ok x spot'.place h) x spot' stack' caps' w
+  first_valid b p (x ∷ []) spot' stack' caps' h w = begun_valid c ok b (begun_place c x spot'.place)
+      (stands_at c ok x spot'.place h) x spot' stack' caps' w
   first_valid b p (x ∷ y ∷ ps) spot' stack' caps' h w = w
 
   first_ahead : (b : Bool) (p : ℕ) (ks : List ℕ) (spot' : Spot) (stack' : List Entry) (caps' : Captures) →
       ahead c (conf (first_begun c b p ks spot'.place) (first_spot c b ks spot') stack' caps')
-      ≡ focus c (first_begun c b p ks spot'.place) (around c stack' spot'.frame).depth (outside c stack' caps' spot'.frame) (state_at (around_at c stack' spot'.frame spot'.passed) (kept_at (first_spot c b ks spot')) caps') (fail c stack' caps')
+      ≡ focus c (first_begun c b p ks spot'.place) (around c stack' spot'.frame).depth
+      (outside c stack' caps' spot'.frame) (state_at (around_at c stack' spot'.frame spot'.passed)
+      (kept_at (first_spot c b ks spot')) caps') (fail c stack' caps')
   first_ahead b p [] spot' stack' caps' = refl
   first_ahead b p (x ∷ []) spot' stack' caps' = begun_ahead c ok b (begun_place c x spot'.place) x spot' stack' caps'
   first_ahead b p (x ∷ y ∷ ps) spot' stack' caps' = refl
 
-  first_kept : (b : Bool) (ks : List ℕ) (a : Around) (spot' : Spot) (caps' : Captures) → state_at a (kept_at (first_spot c b ks spot')) caps' ≡ first_state c b ks (state_at a (kept_at spot') caps')
+  first_kept : (b : Bool) (ks : List ℕ) (a : Around) (spot' : Spot) (caps' : Captures)
+      → state_at a (kept_at (first_spot c b ks spot')) caps' ≡ first_state c b ks (state_at a (kept_at spot') caps')
   first_kept b [] a spot' caps' = refl
   first_kept b (x ∷ []) a spot' caps' = begun_kept c ok b (begun_place c x spot'.place) a spot' caps'
   first_kept b (x ∷ y ∷ ps) a spot' caps' = refl
@@ -367,18 +524,29 @@ module _ (c : Ground) (ok : IsGround c) (q : ℕ) (spot : Spot) (stack : List En
   spot_plain (x ∷ []) spot' = refl
   spot_plain (x ∷ y ∷ ps) spot' = refl
 
-  alone_here : (ks : List ℕ) → n ≡ node.Group None ks → Alone c (outside c stack caps spot.frame) ks (hand c stack caps spot.frame q)
+  alone_here : (ks : List ℕ) → n ≡ node.Group None ks
+      → Alone c (outside c stack caps spot.frame) ks (hand c stack caps spot.frame q)
   alone_here ks e =
-      alone c stack caps spot.frame (cont c stack caps spot.frame) ks (c.branch q) (hand c stack caps spot.frame q) (branches_by c q n i (node.Group None ks) e)
+      alone c stack caps spot.frame (cont c stack caps spot.frame) ks (c.branch q) (hand c stack caps spot.frame q)
+      (branches_by c q n i (node.Group None ks) e)
       (λ p same. hand_same c stack caps spot.frame p q same)
 
-  pub turn_group : (ks : List ℕ) → n ≡ node.Group None ks → Advances c (conf (Enter q) spot stack caps) (conf (first_next q ks) spot stack caps)
+  pub turn_group : (ks : List ℕ) → n ≡ node.Group None ks
+      → Advances c (conf (Enter q) spot stack caps) (conf (first_next q ks) spot stack caps)
   turn_group ks e =
       advance_pause c _ _ _ (enter_group c ok q n i _ _ _ _ _ deep ks (alone_here ks e) e) refl refl
-      (record { running = first_running q ks v.running.0 (kids_are ks (ap kids_of e)) (branched_group c q n i None ks e) spot stack v.running.1 v.running.2; records = v.records; spans = v.spans; slots = v.slots })
+      (record {
+        running = first_running q ks v.running.0 (kids_are ks (ap kids_of e))
+            (branched_group c q n i None ks e) spot stack v.running.1 v.running.2;
+        records = v.records;
+        spans = v.spans;
+        slots = v.slots;
+      })
 
-  -- A frame is opened around branches, those of the part or of its test: they run in it, and it ends as its record says.
-  module _ (r : Entry) (at : entry_site r ≡ record { node = q; link = spot.frame }) (kept : entry_kept r ≡ kept_at spot) (plain : taken_back r caps ≡ caps)
+  -- A frame is opened around branches, those of the part or of its test: they run in it, and it ends as its record
+  -- says.
+  module _ (r : Entry) (at : entry_site r ≡ record { node = q; link = spot.frame })
+      (kept : entry_kept r ≡ kept_at spot) (plain : taken_back r caps ≡ caps)
       (same : (a : Around) → frame_around r a ≡ a) (room : spot.units < c.setting.matching.frame_limit) where
     abbrev pub opened : Spot
     opened = record spot { frame = suc (length stack); units = spot.units + 1 }
@@ -389,10 +557,20 @@ module _ (c : Ground) (ok : IsGround c) (q : ℕ) (spot : Spot) (stack : List En
     opened_standing : StandsAt c opened (r ∷ stack) (around c (r ∷ stack) (suc (length stack))).depth
     opened_standing =
         let w = v.running.1 in
-        record { inside = omega arith; deep = omega (arith, w.deep, ap (λ (a : Around). a.depth) in_frame); counted = omega (arith, w.counted); few = omega (arith, room); here = w.here; marked = omega (arith, w.marked); contained = contained_none c (suc (length stack)) (r ∷ stack) (omega arith) }
+        record {
+          inside = omega arith;
+          deep = omega (arith, w.deep, ap (λ (a : Around). a.depth) in_frame);
+          counted = omega (arith, w.counted);
+          few = omega (arith, room);
+          here = w.here;
+          marked = omega (arith, w.marked);
+          contained = contained_none c (suc (length stack)) (r ∷ stack) (omega arith);
+        }
 
-    module _ (p : ℕ) (inside : IsPart c p) (ks : List ℕ) (parts : All (IsPart c) ks) (b : IsBranched c p ks) (none : branch_rest c (tree_of c p) (c.rest p) ≡ [])
-        (framed : All (λ k. c.branch k ≡ branch_if ks None k) ks) (sound : IsSound c spot.left (length caps) stack r) (h : Handler)
+    module _ (p : ℕ) (inside : IsPart c p) (ks : List ℕ) (parts : All (IsPart c) ks) (b : IsBranched c p ks)
+        (none : branch_rest c (tree_of c p) (c.rest p) ≡ [])
+        (framed : All (λ k. c.branch k ≡ branch_if ks None k) ks) (sound : IsSound c spot.left (length caps) stack r)
+        (h : Handler)
         (is : h ≡ caught c (r ∷ stack) caps (suc (length stack))) (z : Moves) where
       abbrev backward : Bool
       backward = is_behind (tree_of c p)
@@ -404,7 +582,8 @@ module _ (c : Ground) (ok : IsGround c) (q : ℕ) (spot : Spot) (stack : List En
           ≡ pause (holding c.setting 1 (spot_state c spot stack caps) (λ u.
           branch_paths c.setting (kid_paths c (tree_of c p) level ks) u (inside_of c r stack caps).follow z h)) →
           fail c (r ∷ stack) caps ≡ z →
-          GoesBy c spot x (conf (first_begun c backward p ks spot.place) (first_spot c backward ks opened) (r ∷ stack) caps)
+          GoesBy c spot x (conf (first_begun c backward p ks spot.place) (first_spot c backward ks opened) (r ∷ stack)
+          caps)
       opens_behind x e f =
           let next : Next = first_begun c backward p ks spot.place in
           let kept : Kept = kept_at (first_spot c backward ks opened) in
@@ -412,18 +591,24 @@ module _ (c : Ground) (ok : IsGround c) (q : ℕ) (spot : Spot) (stack : List En
           (e ∙ ap pause (holding_room c.setting _ _ room))
           (first_ahead backward p ks opened (r ∷ stack) caps
           ∙ focus_framed c r stack caps next spot.passed kept caps (fail c (r ∷ stack) caps) v.running.1.marked
-          ∙ ap (λ (a : Around). focus c next a.depth (inside_of c r stack caps) (state_at (record a { passed = heard stack spot.passed }) kept caps) (fail c (r ∷ stack) caps))
+          ∙ ap (λ (a : Around). focus c next a.depth (inside_of c r stack caps)
+          (state_at (record a { passed = heard stack spot.passed }) kept caps) (fail c (r ∷ stack) caps))
           (same _ ∙ ap (around c stack) (ap (λ (x : Site). x.link) at))
-          ∙ ap (focus c next level (inside_of c r stack caps) (state_at (around_at c stack spot.frame spot.passed) kept caps)) f
-          ∙ ap (λ (u : State). focus c next level (inside_of c r stack caps) u z) (first_kept backward ks (around_at c stack spot.frame spot.passed) opened caps)
+          ∙ ap (focus c next level (inside_of c r stack caps)
+          (state_at (around_at c stack spot.frame spot.passed) kept caps)) f
+          ∙ ap (λ (u : State). focus c next level (inside_of c r stack caps) u z)
+          (first_kept backward ks (around_at c stack spot.frame spot.passed) opened caps)
           ∙ sym (branches_in c p level ks b none (inside_of c r stack caps) h
-          (alone c (r ∷ stack) caps (suc (length stack)) (inside_of c r stack caps).follow ks None h framed (λ x none. hand_frame c (r ∷ stack) caps (suc (length stack)) x none ∙ sym is))
+          (alone c (r ∷ stack) caps (suc (length stack)) (inside_of c r stack caps).follow ks None h framed
+          (λ x none. hand_frame c (r ∷ stack) caps (suc (length stack)) x none ∙ sym is))
           (agreed_frame c (r ∷ stack) caps (suc (length stack)) p h is)
           (state_at (around_at c stack spot.frame spot.passed) (kept_at opened) caps) z))
           (first_told backward ks opened)
           (first_valid backward p ks opened (r ∷ stack) caps v.running.1.here
           (record {
-            running = first_running p ks inside parts b opened (r ∷ stack) opened_standing (later_none c spot.left (length caps) (suc (length stack)) p (r ∷ stack) (sound, v.records) (omega arith));
+            running = first_running p ks inside parts b opened (r ∷ stack) opened_standing
+                (later_none c spot.left (length caps) (suc (length stack)) p (r ∷ stack) (sound, v.records)
+                (omega arith));
             records = (sound, v.records);
             spans = v.spans;
             slots = v.slots;
@@ -434,15 +619,18 @@ module _ (c : Ground) (ok : IsGround c) (q : ℕ) (spot : Spot) (stack : List En
           ≡ pause (holding c.setting 1 (spot_state c spot stack caps) (λ u.
           branch_paths c.setting (kid_paths c (tree_of c p) level ks) u (inside_of c r stack caps).follow z h)) →
           fail c (r ∷ stack) caps ≡ z →
-          GoesBy c spot x (conf (first_begun c behind' p ks spot.place) (first_spot c behind' ks opened) (r ∷ stack) caps)
+          GoesBy c spot x (conf (first_begun c behind' p ks spot.place) (first_spot c behind' ks opened) (r ∷ stack)
+          caps)
       opens_by behind' is x e f =
-          subst (λ b. GoesBy c spot x (conf (first_begun c b p ks spot.place) (first_spot c b ks opened) (r ∷ stack) caps)) is (opens_behind x e f)
+          subst (λ b. GoesBy c spot x (conf (first_begun c b p ks spot.place) (first_spot c b ks opened) (r ∷ stack)
+          caps)) is (opens_behind x e f)
 
       pub opens_as : (behind' : Bool) → is_behind (tree_of c p) ≡ behind' → ahead c (conf (Enter q) spot stack caps)
           ≡ pause (holding c.setting 1 (spot_state c spot stack caps) (λ u.
           branch_paths c.setting (kid_paths c (tree_of c p) level ks) u (inside_of c r stack caps).follow z h)) →
           fail c (r ∷ stack) caps ≡ z →
-          Advances c (conf (Enter q) spot stack caps) (conf (first_begun c behind' p ks spot.place) (first_spot c behind' ks opened) (r ∷ stack) caps)
+          Advances c (conf (Enter q) spot stack caps)
+          (conf (first_begun c behind' p ks spot.place) (first_spot c behind' ks opened) (r ∷ stack) caps)
       opens_as behind' is e f = advance_from c _ _ _ refl (opens_by behind' is _ e f)
 
       -- those that begin at the place itself
@@ -453,15 +641,20 @@ module _ (c : Ground) (ok : IsGround c) (q : ℕ) (spot : Spot) (stack : List En
           Advances c (conf (Enter q) spot stack caps) (conf (first_next p ks) opened (r ∷ stack) caps)
       opens plain e f =
           let kids : List Path = kid_paths c (tree_of c p) level ks in
-          subst (λ x. Advances c (conf (Enter q) spot stack caps) (conf x opened (r ∷ stack) caps)) (first_plain c p ks spot.place)
-          (subst (λ x. Advances c (conf (Enter q) spot stack caps) (conf (first_begun c false p ks spot.place) x (r ∷ stack) caps)) (spot_plain ks opened)
+          subst (λ x. Advances c (conf (Enter q) spot stack caps) (conf x opened (r ∷ stack) caps))
+          (first_plain c p ks spot.place)
+          (subst (λ x. Advances c (conf (Enter q) spot stack caps)
+          (conf (first_begun c false p ks spot.place) x (r ∷ stack) caps)) (spot_plain ks opened)
           (opens_as false plain
-          (e ∙ ap (λ (xs : List Path). pause (holding c.setting 1 (spot_state c spot stack caps) (λ u. branch_paths c.setting xs u (inside_of c r stack caps).follow z h))) (sym (plain_kids c (tree_of c p) plain level ks)))
+          (e ∙ ap (λ (xs : List Path). pause (holding c.setting 1 (spot_state c spot stack caps)
+          (λ u. branch_paths c.setting xs u (inside_of c r stack caps).follow z h)))
+          (sym (plain_kids c (tree_of c p) plain level ks)))
           f))
 
   pub turn_capture : (m : ℕ) (ks : List ℕ) → n ≡ node.Group (Some m) ks → spot.units < c.setting.matching.frame_limit →
       Advances c (conf (Enter q) spot stack caps)
-      (conf (first_next q ks) (record spot { frame = suc (length stack); units = spot.units + 1 }) (GroupOpen (record { node = q; link = spot.frame }) (kept_at spot) ∷ stack) caps)
+      (conf (first_next q ks) (record spot { frame = suc (length stack); units = spot.units + 1 })
+      (GroupOpen (record { node = q; link = spot.frame }) (kept_at spot) ∷ stack) caps)
   unfolding fail
   turn_capture m ks e room =
       let t : nest c.trees (node.Group (Some m) ks) ≡ tree_of c q = subst (λ z. nest c.trees z ≡ tree_of c q) e i.is in
@@ -470,24 +663,30 @@ module _ (c : Ground) (ok : IsGround c) (q : ℕ) (spot : Spot) (stack : List En
       (ap (λ x. branch_rest c x (c.rest q)) (sym t))
       (branches_by c q n i (node.Group (Some m) ks) e)
       (v.running.0, v.running.1, subst (IsCapture c) t tt, v.running.2)
-      (hand c stack caps spot.frame q) (caught_through c (GroupOpen (record { node = q; link = spot.frame }) (kept_at spot)) stack caps refl refl)
+      (hand c stack caps spot.frame q)
+      (caught_through c (GroupOpen (record { node = q; link = spot.frame }) (kept_at spot)) stack caps refl refl)
       (pause (fail c stack caps)) (ap is_behind (sym t))
       (enter_capture c ok q n i _ _ _ _ _ deep m ks e) refl
 
   pub stop_capture : (m : ℕ) (ks : List ℕ) → n ≡ node.Group (Some m) ks → c.setting.matching.frame_limit ≤ spot.units →
       tread c.setting spot.left (ahead c (conf (Enter q) spot stack caps)) ≡ answers FrameLimit
-  stop_capture m ks e full = over_units c spot.left _ _ (enter_capture c ok q n i _ _ _ _ _ deep m ks e) (holding_full c.setting _ _ full)
+  stop_capture m ks e full = over_units c spot.left _ _ (enter_capture c ok q n i _ _ _ _ _ deep m ks e)
+      (holding_full c.setting _ _ full)
 
-  pub turn_capture_of : (number : Option ℕ) (ks : List ℕ) → n ≡ node.Group number ks → (m : ℕ) → number ≡ Some m → spot.units < c.setting.matching.frame_limit →
+  pub turn_capture_of : (number : Option ℕ) (ks : List ℕ) → n ≡ node.Group number ks → (m : ℕ) → number ≡ Some m
+      → spot.units < c.setting.matching.frame_limit →
       Advances c (conf (Enter q) spot stack caps)
-      (conf (first_next q ks) (record spot { frame = suc (length stack); units = spot.units + 1 }) (GroupOpen (record { node = q; link = spot.frame }) (kept_at spot) ∷ stack) caps)
+      (conf (first_next q ks) (record spot { frame = suc (length stack); units = spot.units + 1 })
+      (GroupOpen (record { node = q; link = spot.frame }) (kept_at spot) ∷ stack) caps)
   turn_capture_of number ks e m is room = turn_capture m ks (e ∙ ap (λ x. node.Group x ks) is) room
 
-  pub stop_capture_of : (number : Option ℕ) (ks : List ℕ) → n ≡ node.Group number ks → (m : ℕ) → number ≡ Some m → c.setting.matching.frame_limit ≤ spot.units →
+  pub stop_capture_of : (number : Option ℕ) (ks : List ℕ) → n ≡ node.Group number ks → (m : ℕ) → number ≡ Some m
+      → c.setting.matching.frame_limit ≤ spot.units →
       tread c.setting spot.left (ahead c (conf (Enter q) spot stack caps)) ≡ answers FrameLimit
   stop_capture_of number ks e m is full = stop_capture m ks (e ∙ ap (λ x. node.Group x ks) is) full
 
-  pub turn_group_of : (number : Option ℕ) (ks : List ℕ) → n ≡ node.Group number ks → ((m : ℕ) → number ≡ Some m → ⊥) → Advances c (conf (Enter q) spot stack caps) (conf (first_next q ks) spot stack caps)
+  pub turn_group_of : (number : Option ℕ) (ks : List ℕ) → n ≡ node.Group number ks → ((m : ℕ) → number ≡ Some m → ⊥)
+      → Advances c (conf (Enter q) spot stack caps) (conf (first_next q ks) spot stack caps)
   turn_group_of None ks e not = turn_group ks e
   turn_group_of (Some m) ks e not = absurd (not m refl)
 
@@ -495,13 +694,22 @@ module _ (c : Ground) (ok : IsGround c) (q : ℕ) (spot : Spot) (stack : List En
       ahead c (conf (Enter q) spot stack caps) ≡ ahead c (conf (Offer q 0) spot stack caps)
   ahead_repeat body low high lazily e = enter_repeat c ok q n i _ _ _ _ _ deep body low high lazily e
 
-  pub valid_repeat : (body low : ℕ) (high : Option ℕ) (lazily : Bool) → n ≡ node.Repeat body low high lazily → IsValid c (conf (Offer q 0) spot stack caps)
+  pub valid_repeat : (body low : ℕ) (high : Option ℕ) (lazily : Bool) → n ≡ node.Repeat body low high lazily
+      → IsValid c (conf (Offer q 0) spot stack caps)
   valid_repeat body low high lazily e =
       let w = v.running.1 in
       record {
         running = (
           v.running.0,
-          record { inside = w.inside; deep = omega (arith, w.deep); counted = w.counted; few = w.few; here = w.here; marked = w.marked; contained = w.contained },
+          record {
+            inside = w.inside;
+            deep = omega (arith, w.deep);
+            counted = w.counted;
+            few = w.few;
+            here = w.here;
+            marked = w.marked;
+            contained = w.contained;
+          },
           subst (IsRepeat c) (subst (λ z. nest c.trees z ≡ tree_of c q) e i.is) tt,
           v.running.2,
         );
@@ -515,7 +723,8 @@ length_row c [] = refl
 length_row c (x ∷ xs) = ap suc (length_row c xs)
 
 -- a branch of a group is tried
-module _ (c : Ground) (ok : IsGround c) (q j : ℕ) (spot : Spot) (stack : List Entry) (caps : Captures) (v : IsValid c (conf (Branch q j) spot stack caps))
+module _ (c : Ground) (ok : IsGround c) (q j : ℕ) (spot : Spot) (stack : List Entry) (caps : Captures)
+    (v : IsValid c (conf (Branch q j) spot stack caps))
     (ks : List ℕ) (b : IsBranched c q ks) (p : ℕ) (at : slice_get ks j ≡ Some p) (inside : IsPart c p) where
   abbrev behind : Bool
   behind = is_behind (tree_of c q)
@@ -540,33 +749,49 @@ module _ (c : Ground) (ok : IsGround c) (q j : ℕ) (spot : Spot) (stack : List 
   own_branch =
       let counts : row_length (row (map (tree_at c.trees) ks)) ≡ length ks = length_row c ks in
       let two : 1 < row_length (row (map (tree_at c.trees) ks)) = subst (λ r. 1 < row_length r) b.rows v.running.2.1 in
-      All-at c (λ k. c.branch k ≡ branch_if ks b.outer k) ks j p b.own at ∙ branch_own ks b.outer p (omega (arith, two, counts))
+      All-at c (λ k. c.branch k ≡ branch_if ks b.outer k) ks j p b.own at
+      ∙ branch_own ks b.outer p (omega (arith, two, counts))
 
   stands_behind : c.rank q < c.rank p
   stands_behind = All-at c (λ k. c.rank q < c.rank k) ks j p b.behind at
 
-  pub stop_branch : spot.left ≡ 0 → (p' : Option ℕ) → slice_get ks (suc j) ≡ p' → length ks ≤ suc j ⊎ ((x : ℕ) × (slice_get ks (suc j) ≡ Some x)) →
+  pub stop_branch : spot.left ≡ 0 → (p' : Option ℕ) → slice_get ks (suc j) ≡ p'
+      → length ks ≤ suc j ⊎ ((x : ℕ) × (slice_get ks (suc j) ≡ Some x)) →
       tread c.setting spot.left (ahead c (conf (Branch q j) spot stack caps)) ≡ answers MatchLimit
-  stop_branch out p' e (inl last) = over_steps c spot.left _ _ (branch_last c q j depth_now ks b p at now K (fail c stack caps) last) out
-  stop_branch out p' e (inr more) = over_steps c spot.left _ _ (branch_more c q j depth_now ks b p at now K (fail c stack caps) more.0 more.1) out
+  stop_branch out p' e (inl last) = over_steps c spot.left _ _
+      (branch_last c q j depth_now ks b p at now K (fail c stack caps) last) out
+  stop_branch out p' e (inr more) = over_steps c spot.left _ _
+      (branch_more c q j depth_now ks b p at now K (fail c stack caps) more.0 more.1) out
 
   pub turn_branch_last : length ks ≤ suc j → 0 < spot.left →
-      Advances c (conf (Branch q j) spot stack caps) (conf (begun_next behind start p) (begun_spot behind start (record spot { left = spot.left - 1 })) stack caps)
+      Advances c (conf (Branch q j) spot stack caps)
+      (conf (begun_next behind start p) (begun_spot behind start (record spot { left = spot.left - 1 })) stack
+      caps)
   turn_branch_last last left =
       let w = v.running.1 in
       let to : Spot = record spot { left = spot.left - 1 } in
       let f : Moves = fail c stack caps in
       advance_step c _ _ _
       (branch_last c q j depth_now ks b p at now K f last
-      ∙ ap stepped (branch_begun c q j depth_now ks b p at now K f K refl now f (hand_begun c stack caps spot.frame q p own_branch v.running.3 stands_behind)))
+      ∙ ap stepped (branch_begun c q j depth_now ks b p at now K f K refl now f
+      (hand_begun c stack caps spot.frame q p own_branch v.running.3 stands_behind)))
       (begun_ahead c ok behind start p to stack caps
-      ∙ ap (λ (u : State). focus c (begun_next behind start p) depth_now K u f) (begun_kept c ok behind start (around_at c stack spot.frame spot.passed) to caps))
+      ∙ ap (λ (u : State). focus c (begun_next behind start p) depth_now K u f)
+      (begun_kept c ok behind start (around_at c stack spot.frame spot.passed) to caps))
       (omega (arith, begun_left c ok behind start to, left)) (begun_last c ok behind start to)
       (begun_valid c ok behind start (stands_at c ok p spot.place w.here) p to stack caps
       (record {
         running = (
           inside,
-          record { inside = w.inside; deep = omega (arith, w.deep); counted = w.counted; few = w.few; here = w.here; marked = w.marked; contained = w.contained },
+          record {
+            inside = w.inside;
+            deep = omega (arith, w.deep);
+            counted = w.counted;
+            few = w.few;
+            here = w.here;
+            marked = w.marked;
+            contained = w.contained;
+          },
           later_more c spot.frame q p stack (omega (arith, stands_behind)) v.running.3,
         );
         records = sound_less c spot.left (spot.left - 1) (length caps) stack (omega arith) v.records;
@@ -580,10 +805,12 @@ module _ (c : Ground) (ok : IsGround c) (q j : ℕ) (spot : Spot) (stack : List 
     other = pause (focus c (Branch q (suc j)) depth_now K now (fail c stack caps))
 
     choosing : ahead c (conf (Branch q j) spot stack caps)
-        ≡ stepped (holding c.setting 1 now (λ u. branch_path c (tree_of c q) depth_now (tree_of c p) u (after c depth_now K beyond) other (catching other (K.hand q))))
+        ≡ stepped (holding c.setting 1 now (λ u. branch_path c (tree_of c q) depth_now (tree_of c p) u
+        (after c depth_now K beyond) other (catching other (K.hand q))))
     choosing = branch_more c q j depth_now ks b p at now K (fail c stack caps) p' at'
 
-    pub stop_branch_units : c.setting.matching.frame_limit ≤ spot.units → tread c.setting spot.left (ahead c (conf (Branch q j) spot stack caps)) ≡ answers FrameLimit
+    pub stop_branch_units : c.setting.matching.frame_limit ≤ spot.units
+        → tread c.setting spot.left (ahead c (conf (Branch q j) spot stack caps)) ≡ answers FrameLimit
     stop_branch_units full = over_units_step c spot.left _ _ choosing (holding_full c.setting _ _ full) left
 
     -- the record of the later branches
@@ -601,14 +828,18 @@ module _ (c : Ground) (ok : IsGround c) (q j : ℕ) (spot : Spot) (stack : List 
     branch_hand : over.hand p ≡ catching other (K.hand q)
     unfolding fail
     branch_hand =
-        let passes : caught c (r ∷ stack) caps spot.frame ≡ caught c stack caps spot.frame = caught_push c r stack caps spot.frame v.running.1.inside in
-        hand_begun c (r ∷ stack) caps spot.frame q p own_branch (later_push c spot.frame q r stack (omega arith) v.running.3) stands_behind
+        let passes : caught c (r ∷ stack) caps spot.frame ≡ caught c stack caps spot.frame =
+        caught_push c r stack caps spot.frame v.running.1.inside in
+        hand_begun c (r ∷ stack) caps spot.frame q p own_branch
+        (later_push c spot.frame q r stack (omega arith) v.running.3) stands_behind
         ∙ catching_same c other (hand c (r ∷ stack) caps spot.frame q) (hand c stack caps spot.frame q)
         (agreed_hands c (r ∷ stack) stack caps caps spot.frame q passes)
 
     pub turn_branch_more : suc j < length ks → spot.units < c.setting.matching.frame_limit →
         Advances c (conf (Branch q j) spot stack caps)
-        (conf (begun_next behind start p) (begun_spot behind start (record spot { left = spot.left - 1; units = spot.units + 1 })) (LaterBranch (record { node = q; link = spot.frame }) (kept_at spot) (suc j) ∷ stack) caps)
+        (conf (begun_next behind start p)
+        (begun_spot behind start (record spot { left = spot.left - 1; units = spot.units + 1 }))
+        (LaterBranch (record { node = q; link = spot.frame }) (kept_at spot) (suc j) ∷ stack) caps)
     unfolding fail
     turn_branch_more lt room =
         let w = v.running.1 in
@@ -616,13 +847,20 @@ module _ (c : Ground) (ok : IsGround c) (q j : ℕ) (spot : Spot) (stack : List 
         let counts : row_length (row (map (tree_at c.trees) ks)) ≡ length ks = length_row c ks in
         let held : State = record now { units = spot.units + 1 } in
         advance_step c _ _ _
-        (choosing ∙ ap stepped (holding_room c.setting _ _ room ∙ branch_begun c q j depth_now ks b p at now K (fail c stack caps) over beyond_same held other branch_hand))
+        (choosing ∙ ap stepped (holding_room c.setting _ _ room
+        ∙ branch_begun c q j depth_now ks b p at now K (fail c stack caps) over beyond_same held other
+        branch_hand))
         (begun_ahead c ok behind start p to (r ∷ stack) caps
-        ∙ ap (λ (a : Around). focus c (begun_next behind start p) a.depth over (state_at (record a { passed = heard (r ∷ stack) spot.passed }) (kept_at (begun_spot behind start to)) caps) other)
+        ∙ ap (λ (a : Around). focus c (begun_next behind start p) a.depth over
+        (state_at (record a { passed = heard (r ∷ stack) spot.passed }) (kept_at (begun_spot behind start to))
+        caps) other)
         (around_push c r stack spot.frame w.inside)
-        ∙ ap (λ (names : List (ℕ × ℕ)). focus c (begun_next behind start p) depth_now over (state_at (record (around c stack spot.frame) { passed = names }) (kept_at (begun_spot behind start to)) caps) other)
+        ∙ ap (λ (names : List (ℕ × ℕ)). focus c (begun_next behind start p) depth_now over
+        (state_at (record (around c stack spot.frame) { passed = names }) (kept_at (begun_spot behind start to))
+        caps) other)
         (heard_push c r stack spot.passed w.marked)
-        ∙ ap (λ (u : State). focus c (begun_next behind start p) depth_now over u other) (begun_kept c ok behind start (around_at c stack spot.frame spot.passed) to caps))
+        ∙ ap (λ (u : State). focus c (begun_next behind start p) depth_now over u other)
+        (begun_kept c ok behind start (around_at c stack spot.frame spot.passed) to caps))
         (omega (arith, begun_left c ok behind start to, left)) (begun_last c ok behind start to)
         (begun_valid c ok behind start (stands_at c ok p spot.place w.here) p to (r ∷ stack) caps
         (record {
@@ -637,12 +875,21 @@ module _ (c : Ground) (ok : IsGround c) (q j : ℕ) (spot : Spot) (stack : List 
               marked = omega (arith, w.marked);
               contained = contained_push c spot.frame r stack refl w.contained;
             },
-            later_push c spot.frame p r stack (omega (arith, stands_behind)) (later_more c spot.frame q p stack (omega (arith, stands_behind)) v.running.3),
+            later_push c spot.frame p r stack (omega (arith, stands_behind))
+                (later_more c spot.frame q p stack (omega (arith, stands_behind)) v.running.3),
           );
           records = (
             (
               v.running.0,
-              record { inside = w.inside; deep = omega (arith, w.deep); counted = w.counted; few = w.few; here = w.here; marked = w.marked; contained = w.contained },
+              record {
+                inside = w.inside;
+                deep = omega (arith, w.deep);
+                counted = w.counted;
+                few = w.few;
+                here = w.here;
+                marked = w.marked;
+                contained = w.contained;
+              },
               (subst (λ x. suc j < row_length x) (sym b.rows) (omega (arith, lt, counts)), v.running.2.1),
               v.running.3,
             ),

@@ -27,7 +27,8 @@ signal_of signal.Commit = meant.Commit
 
 -- the answer, and the captures of a match, are those of the search; want of memory may come at any time
 abbrev pub IsAnswer : PlaceAnswer → Captures → Walked → Type 0
-IsAnswer (told.Matched keep to mark) caps w = w.answer ≡ meant.Matched (record { keep = keep; to = to; mark = mark; caps = caps })
+IsAnswer (told.Matched keep to mark) caps w = w.answer ≡ meant.Matched
+    (record { keep = keep; to = to; mark = mark; caps = caps })
 IsAnswer (told.Failed signal hit) caps w = (w.answer ≡ meant.Failed (signal_of signal)) × (hit ≡ has_hit w.notes)
 IsAnswer told.Partial caps w = w.answer ≡ meant.Partial
 IsAnswer told.MatchLimit caps w = w.answer ≡ meant.MatchLimit

@@ -1,5 +1,7 @@
--- Calls of groups: the calls that are active in a frame, the part that a call runs, and captures that a call gives back.
-use Rattle.std.specs.Prelude.{◌≡◌, ◌<◌, ◌≤◌, ℕ, suc, ◌+◌, ◌-◌, List, [], ◌∷◌, All, length, drop, Option, Some, None, nat_eq, slice_index_or, if◌then◌else◌}
+-- Calls of groups: the calls that are active in a frame, the part that a call runs, and captures that a call gives
+-- back.
+use Rattle.std.specs.Prelude.{◌≡◌, ◌<◌, ◌≤◌, ℕ, suc, ◌+◌, ◌-◌, List, [], ◌∷◌, All, length, drop, Option, Some, None}
+use Rattle.std.specs.Prelude.{nat_eq, slice_index_or, if◌then◌else◌}
 use Rattle.pat_tree.specs.Nested as tree
 use Rattle.pat_tree.specs.Nested.{Nested}
 use Rattle.pat_tree.specs.Groups.{group_of}
@@ -111,8 +113,8 @@ pub record Trail : Type 0 where
 abbrev pub trail : Captures → List Entry → Trail
 trail caps stack = record { caps = caps; stack = stack }
 
--- All registers but the first i hold what `entry` says. Each that changed left its undo record, at a part in the frame at
--- a height.
+-- All registers but the first i hold what `entry` says. Each that changed left its undo record, at a part in the frame
+-- at a height.
 pub record AreRestored (at : Site) (entry : Captures) (i : ℕ) (old new : Trail) : Type 0 where
   pub length_kept : length new.caps ≡ length old.caps
   pub left : (j : ℕ) → j < i → slice_index_or new.caps j None ≡ slice_index_or old.caps j None

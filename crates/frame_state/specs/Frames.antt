@@ -1,22 +1,29 @@
 -- What a state of the machine stands for: the rest of the search.
-use Rattle.std.specs.Prelude.{◌≡◌, ℕ, zero, suc, ◌+◌, ◌-◌, Bool, true, false, List, [], ◌∷◌, drop, length, Option, Some, None, nat_le, nat_lt, nat_eq, if◌then◌else◌}
+use Rattle.std.specs.Prelude.{◌≡◌, ℕ, zero, suc, ◌+◌, ◌-◌, Bool, true, false, List, [], ◌∷◌, drop, length, Option}
+use Rattle.std.specs.Prelude.{Some, None, nat_le, nat_lt, nat_eq, if◌then◌else◌}
 use Rattle.pat_tree.specs.declared.nodes.Item.{Item}
 use Rattle.pat_tree.specs.Nested as tree
 use Rattle.pat_tree.specs.Nested.{Nested, Row, Other}
 use Rattle.match_items.specs.Items.{one_less, item_reaches, run_places, place_before}
 use Rattle.frame_store.specs.Captures.{Captures}
-use Rattle.frame_store.specs.Entry.{Entry, LaterBranch, GroupOpen, CalledGroup, TurnOpen, TurnOrExit, LaterTurn, FewerItems, MoreItems, AtomicOpen, LookOpen, LookAllOpen, LookTest, DenialOpen, DenialTest, CallOpen, AtomicLeft, CommitPassed, PrunePassed, SkipPassed, ThenPassed, entry_site}
+use Rattle.frame_store.specs.Entry.{Entry, LaterBranch, GroupOpen, CalledGroup, TurnOpen, TurnOrExit, LaterTurn}
+use Rattle.frame_store.specs.Entry.{FewerItems, MoreItems, AtomicOpen, LookOpen, LookAllOpen, LookTest, DenialOpen}
+use Rattle.frame_store.specs.Entry.{DenialTest, CallOpen, AtomicLeft, CommitPassed, PrunePassed, SkipPassed}
+use Rattle.frame_store.specs.Entry.{ThenPassed, entry_site}
 use Rattle.frame_store.specs.Undo.{taken_back}
 use Rattle.frame_state.specs.declared.machine.Next.{Next}
-use Rattle.frame_state.specs.declared.machine.Next.TheVariants.{Enter, Branch, Offer, Begin, Fewer, More, End, Back, Accept, Act, Leave}
+use Rattle.frame_state.specs.declared.machine.Next.TheVariants.{Enter, Branch, Offer, Begin, Fewer, More, End, Back}
+use Rattle.frame_state.specs.declared.machine.Next.TheVariants.{Accept, Act, Leave}
 use Rattle.frame_state.specs.declared.machine.Spot.{Spot}
 use Rattle.ordered_search.specs.Stream.{State, next_branch, prune, skip, commit, reached, accepted}
 use Rattle.ordered_search.specs.Setting.{match_limit, branch_lengths}
 use Rattle.ordered_search.specs.Parts.{back_to}
 use Rattle.ordered_search.specs.Moves.{Moves, pause, exhaust, Follow, Handler, Path, at_end, at_verbs, reaching}
-use Rattle.ordered_search.specs.Paths.{close, leave, returned, offer_paths, lazy_paths, turned, turn_path, choice_paths, behind_path, paths}
+use Rattle.ordered_search.specs.Paths.{close, leave, returned, offer_paths, lazy_paths, turned, turn_path}
+use Rattle.ordered_search.specs.Paths.{choice_paths, behind_path, paths}
 use Rattle.frame_state.specs.Ground.{Ground, tree_of, BeginsBy}
-use Rattle.frame_state.specs.Machine.{less, Around, state_at, kept_at, link_of, entry_kept, heard, ending_of, Outside, in_row, Conf}
+use Rattle.frame_state.specs.Machine.{less, Around, state_at, kept_at, link_of, entry_kept, heard, ending_of}
+use Rattle.frame_state.specs.Machine.{Outside, in_row, Conf}
 
 -- inside a frame
 abbrev pub frame_around : Entry → Around → Around
@@ -39,25 +46,31 @@ is_catching_then (LookOpen at kept) = true
 is_catching_then (LookAllOpen at kept) = true
 is_catching_then r = is_catching r
 
--- What a verb leads to in a frame, a THEN outside its branches, where h is around its parts, and x is left where it fails.
+-- What a verb leads to in a frame, a THEN outside its branches, where h is around its parts, and x is left where it
+-- fails.
 abbrev pub frame_hand : Entry → (ℕ → Handler) → Moves → Handler
 frame_hand r h x next_branch = elim (is_catching_then r) [ true ↦ x | false ↦ h (entry_site r).node next_branch ]
 frame_hand r h x v = elim (is_catching r) [ true ↦ x | false ↦ h (entry_site r).node v ]
 
 module _ (c : Ground) where
-  -- The height at which a branch began in the frame at a height: the frame's records that it has left stand at its place in
-  -- the pattern or behind it. `height` is that above which it has left records.
+  -- The height at which a branch began in the frame at a height: the frame's records that it has left stand at its
+  -- place in the pattern or behind it. `height` is that above which it has left records.
   unfoldable pub began : List Entry → (frame branch height : ℕ) → ℕ
   began [] frame branch height = height
   began (r ∷ below) frame branch height =
       if nat_eq (link_of r) frame
-      then (if nat_le (c.rank branch) (c.rank (entry_site r).node) then began below frame branch (length below) else height)
+      then (if nat_le (c.rank branch) (c.rank (entry_site r).node) then began below frame branch (length below) else
+      height)
       else began below frame branch height
 
-  -- What verbs lead to in a part of the frame at a height, where `to` is left at each height and h is what they lead to in
-  -- the frame: a THEN fails the innermost branch.
+  -- What verbs lead to in a part of the frame at a height, where `to` is left at each height and h is what they lead to
+  -- in the frame: a THEN fails the innermost branch.
   abbrev pub hand_in : List Entry → ℕ → (ℕ → Moves) → Handler → ℕ → Handler
-  hand_in stack l to h q next_branch = elim (c.branch q) [ None ↦ h next_branch | Some b ↦ to (began stack l b (length stack)) ]
+  hand_in stack l to h q next_branch = elim (c.branch q) [
+    | None ↦ h next_branch
+    | Some b ↦
+        to (began stack l b (length stack))
+  ]
   hand_in stack l to h q v = h v
 
   -- parts that follow one after the other, and then the frame's end
@@ -86,7 +99,8 @@ module _ (c : Ground) where
 
   -- a branch of a part; that of a lookbehind begins at an earlier place
   abbrev pub branch_path : Nested → ℕ → Nested → Path
-  branch_path (tree.look false positive once ts) d t = behind_path c.setting (branch_lengths c.setting t) (paths c.setting d t)
+  branch_path (tree.look false positive once ts) d t =
+      behind_path c.setting (branch_lengths c.setting t) (paths c.setting d t)
   branch_path _ d t = paths c.setting d t
 
   -- the branches of a part from one of them on
@@ -168,13 +182,17 @@ module _ (c : Ground) where
   frame_end (GroupOpen at kept) a k caps out how s f =
       close_from (tree_of c at.node) kept.place (past a.depth k at.node) how s f
   frame_end (TurnOpen at kept count) a k caps out how s f =
-      turned_from (tree_of c at.node) count a.depth (state_at a kept caps) (past a.depth k at.node) (k.hand at.node) how s f
+      turned_from (tree_of c at.node) count a.depth (state_at a kept caps) (past a.depth k at.node) (k.hand at.node)
+      how s f
   frame_end (TurnOrExit at kept count) a k caps out how s f =
-      turned_from (tree_of c at.node) count a.depth (state_at a kept caps) (past a.depth k at.node) (k.hand at.node) how s f
-  frame_end (AtomicOpen at kept) a k caps out how s f = leave c.setting (state_at a kept caps) how s (past a.depth k at.node) out
+      turned_from (tree_of c at.node) count a.depth (state_at a kept caps) (past a.depth k at.node) (k.hand at.node)
+      how s f
+  frame_end (AtomicOpen at kept) a k caps out how s f =
+      leave c.setting (state_at a kept caps) how s (past a.depth k at.node) out
   frame_end (LookOpen at kept) a k caps out how s f =
       leave c.setting (state_at a kept caps) reached (back_to (state_at a kept caps) s) (past a.depth k at.node) out
-  frame_end (LookAllOpen at kept) a k caps out how s f = pause (past a.depth k at.node reached (back_to (state_at a kept caps) s) f)
+  frame_end (LookAllOpen at kept) a k caps out how s f =
+      pause (past a.depth k at.node reached (back_to (state_at a kept caps) s) f)
   frame_end (DenialOpen at kept) a k caps out how s f = pause out
   frame_end (LookTest at kept) a k caps out how s f =
       leave c.setting (state_at a kept caps) reached (back_to (state_at a kept caps) s)
@@ -222,7 +240,11 @@ module _ (c : Ground) where
     cont (r ∷ below) caps l how s f =
         if nat_eq l (suc (length below))
         then frame_end r (around_at below (link_of r) (entry_kept r).passed)
-        (record { follow = cont below (taken_back r caps) (link_of r); hand = hand_in below (link_of r) (fail_to below (taken_back r caps)) (caught below (taken_back r caps) (link_of r)) })
+        (record {
+          follow = cont below (taken_back r caps) (link_of r);
+          hand = hand_in below (link_of r) (fail_to below (taken_back r caps))
+              (caught below (taken_back r caps) (link_of r));
+        })
         (taken_back r caps) (fail below (taken_back r caps)) how s f
         else cont below (taken_back r caps) l how s f
 
@@ -232,7 +254,11 @@ module _ (c : Ground) where
     fail (r ∷ below) caps =
         pause
         (on_fail r (around_at below (link_of r) (entry_kept r).passed)
-        (record { follow = cont below (taken_back r caps) (link_of r); hand = hand_in below (link_of r) (fail_to below (taken_back r caps)) (caught below (taken_back r caps) (link_of r)) })
+        (record {
+          follow = cont below (taken_back r caps) (link_of r);
+          hand = hand_in below (link_of r) (fail_to below (taken_back r caps))
+              (caught below (taken_back r caps) (link_of r));
+        })
         (taken_back r caps) (fail below (taken_back r caps)) (fail_to below (taken_back r caps)))
 
     -- what a verb leads to in the frame at a height, a THEN outside its branches
@@ -240,10 +266,15 @@ module _ (c : Ground) where
     caught [] caps l v = at_verbs v
     caught (r ∷ below) caps l v =
         if nat_eq l (suc (length below))
-        then frame_hand r (hand_in below (link_of r) (fail_to below (taken_back r caps)) (caught below (taken_back r caps) (link_of r)))
+        then frame_hand r (hand_in below (link_of r) (fail_to below (taken_back r caps))
+        (caught below (taken_back r caps) (link_of r)))
         (pause
         (on_fail r (around_at below (link_of r) (entry_kept r).passed)
-        (record { follow = cont below (taken_back r caps) (link_of r); hand = hand_in below (link_of r) (fail_to below (taken_back r caps)) (caught below (taken_back r caps) (link_of r)) })
+        (record {
+          follow = cont below (taken_back r caps) (link_of r);
+          hand = hand_in below (link_of r) (fail_to below (taken_back r caps))
+              (caught below (taken_back r caps) (link_of r));
+        })
         (taken_back r caps) (fail below (taken_back r caps)) (fail_to below (taken_back r caps))))
         v
         else caught below (taken_back r caps) l v
@@ -255,7 +286,11 @@ module _ (c : Ground) where
         if nat_eq h (suc (length below))
         then pause
         (on_fail r (around_at below (link_of r) (entry_kept r).passed)
-        (record { follow = cont below (taken_back r caps) (link_of r); hand = hand_in below (link_of r) (fail_to below (taken_back r caps)) (caught below (taken_back r caps) (link_of r)) })
+        (record {
+          follow = cont below (taken_back r caps) (link_of r);
+          hand = hand_in below (link_of r) (fail_to below (taken_back r caps))
+              (caught below (taken_back r caps) (link_of r));
+        })
         (taken_back r caps) (fail below (taken_back r caps)) (fail_to below (taken_back r caps)))
         else fail_to below (taken_back r caps) h
 

@@ -83,8 +83,8 @@ StandLater c q (p ∷ ps) = (c.past q ≤ c.rank p) × StandLater c p ps
 abbrev pub BeginsBy : Ground → ℕ → ℕ → Type 0
 BeginsBy c q p = IfSome (c.branch p) (λ b. c.rank b ≤ c.rank q)
 
--- The search may come to the part: it is one of the pattern's, and so are those that follow it. A tree may hold nodes beside
--- the pattern's, of which nothing is asked.
+-- The search may come to the part: it is one of the pattern's, and so are those that follow it. A tree may hold nodes
+-- beside the pattern's, of which nothing is asked.
 pub record IsPart (c : Ground) (q : ℕ) : Type 0 where
   pub within : q ≤ c.root
   pub measured : IsMeasuredIn c (tree_of c q)
@@ -115,4 +115,5 @@ pub record IsGround (c : Ground) : Type 0 where
   pub refers : (from to p : ℕ) (caseless : Bool) → c.stands from ≡ true → c.stands to ≡ true → c.stands p ≡ true →
       StandsIf c (after_ref c.setting.scene from to caseless p)
   pub steps_back : (n p : ℕ) → c.stands p ≡ true → StandsIf c (place_back c.setting.scene n p)
-  pub backward : (p : ℕ) → c.stands p ≡ true → 0 < p → (place_before c.setting.scene p < p) × (c.stands (place_before c.setting.scene p) ≡ true)
+  pub backward : (p : ℕ) → c.stands p ≡ true → 0 < p → (place_before c.setting.scene p < p)
+      × (c.stands (place_before c.setting.scene p) ≡ true)

@@ -1,10 +1,14 @@
 -- A state of the machine.
-use Rattle.std.specs.Prelude.{ℕ, zero, suc, ◌-◌, List, [], ◌∷◌, length, Option, Some, None, option_map, nat_eq, if◌then◌else◌}
+use Rattle.std.specs.Prelude.{ℕ, zero, suc, ◌-◌, List, [], ◌∷◌, length, Option, Some, None, option_map, nat_eq}
+use Rattle.std.specs.Prelude.{if◌then◌else◌}
 use Rattle.pat_tree.specs.Nested as tree
 use Rattle.pat_tree.specs.Nested.{Nested, Row}
 use Rattle.frame_store.specs.declared.registers.Span.{Span}
 use Rattle.frame_store.specs.Captures.{Captures, capture}
-use Rattle.frame_store.specs.Entry.{Kept, Entry, Undo, LaterBranch, GroupOpen, CalledGroup, TurnOpen, TurnOrExit, LaterTurn, FewerItems, MoreItems, AtomicOpen, LookOpen, LookAllOpen, LookTest, DenialOpen, DenialTest, CallOpen, AtomicLeft, MarkPassed, CommitPassed, PrunePassed, SkipPassed, ThenPassed, Other, entry_site}
+use Rattle.frame_store.specs.Entry.{Kept, Entry, Undo, LaterBranch, GroupOpen, CalledGroup, TurnOpen, TurnOrExit}
+use Rattle.frame_store.specs.Entry.{LaterTurn, FewerItems, MoreItems, AtomicOpen, LookOpen, LookAllOpen, LookTest}
+use Rattle.frame_store.specs.Entry.{DenialOpen, DenialTest, CallOpen, AtomicLeft, MarkPassed, CommitPassed}
+use Rattle.frame_store.specs.Entry.{PrunePassed, SkipPassed, ThenPassed, Other, entry_site}
 use Rattle.frame_state.specs.declared.machine.Next.{Next}
 use Rattle.frame_state.specs.declared.machine.Next.TheVariants.{Enter, Branch, End, Back}
 use Rattle.frame_state.specs.declared.machine.Spot.{Spot}
@@ -41,7 +45,14 @@ state_at a kept caps = record {
 
 abbrev pub kept_at : Spot → Kept
 kept_at spot =
-    record { units = spot.units; place = spot.place; mark = spot.mark; passed = spot.passed; keep = spot.keep; early = spot.early }
+    record {
+      units = spot.units;
+      place = spot.place;
+      mark = spot.mark;
+      passed = spot.passed;
+      keep = spot.keep;
+      early = spot.early;
+    }
 
 -- what a verb ends the search with
 abbrev pub ending_of : Acting → VerbEnding

@@ -4,7 +4,8 @@ use Rattle.pat_tree.specs.declared.nodes.AnchorKind.{AnchorKind}
 use Rattle.pat_tree.specs.declared.nodes.Item.{Item}
 use Rattle.pat_tree.specs.Nested as tree
 use Rattle.pat_tree.specs.Nested.{Nested}
-use Rattle.match_items.specs.Items.{item_reaches, longest_run, run_reaches, ref_reaches, holds, anchor_reaches, earliest}
+use Rattle.match_items.specs.Items.{item_reaches, longest_run, run_reaches, ref_reaches, holds, anchor_reaches}
+use Rattle.match_items.specs.Items.{earliest}
 use Rattle.frame_store.specs.declared.records.Record.{Record}
 use Rattle.frame_store.specs.declared.registers.Span.{Span}
 use Rattle.ordered_search.specs.Stream.{State}
@@ -91,4 +92,5 @@ module _ (c : Ground) where
     pub moves : new ≡ record old { last = met }
 
   abbrev pub IsFurtherStop : Record → Spot → Met → Stop → Type 0
-  IsFurtherStop r old new s = IsHardStop (asks c.setting && further_reaches (tree_of c r.node) r.to) old.early old.last new s
+  IsFurtherStop r old new s = IsHardStop (asks c.setting && further_reaches (tree_of c r.node) r.to) old.early
+      old.last new s

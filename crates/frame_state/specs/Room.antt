@@ -11,7 +11,8 @@ IsSteady stop.Memory = ⊥
 IsSteady (stop.Abort n) = ⊥
 IsSteady _ = Unit {0}
 
--- it stops for want of memory only where there was no room for as many records as the frame limit, and no callout stops it
+-- it stops for want of memory only where there was no room for as many records as the frame limit, and no callout stops
+-- it
 abbrev pub IsShort : Stop → ℕ → Stack → Type 0
 IsShort stop.Memory limit store = room store < limit
 IsShort (stop.Abort n) limit store = ⊥

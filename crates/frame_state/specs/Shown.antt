@@ -28,7 +28,13 @@ shown_as b = record {
 
 -- a callout of a pattern
 abbrev pub callout_at : ℕ → ℕ → ℕ → ℕ → ℕ → Callout
-callout_at number from to at len = record { number = number; text_from = from; text_to = to; item_at = at; item_len = len }
+callout_at number from to at len = record {
+  number = number;
+  text_from = from;
+  text_to = to;
+  item_at = at;
+  item_len = len;
+}
 
 -- what it shows where the path stands
 abbrev pub block_at : Callout → Spot → search.Block

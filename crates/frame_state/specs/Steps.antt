@@ -53,7 +53,8 @@ module _ (c : Ground) where
 
   abbrev pub StopsOver : {A : Type 0} → Showing → Spot → Captures → Result A Stop → Type 0
   StopsOver s spot caps result =
-      IfErr result (λ stop. IsStopOver stop spot caps s.new (in_all s.old (tells c.setting s.from.spot (ahead c s.from))))
+      IfErr result (λ stop. IsStopOver stop spot caps s.new
+      (in_all s.old (tells c.setting s.from.spot (ahead c s.from))))
 
   -- no more records than the frame limit, or than there were at most before
   abbrev pub KeepsPeak : Stack → Stack → Type 0

@@ -1,5 +1,6 @@
 -- With what the machine stops, and where it goes.
-use Rattle.std.specs.Prelude.{◌≡◌, ◌≤◌, ℕ, ◌+◌, ◌-◌, if◌then◌else◌, Bool, true, false, not, ◌&&◌, ◌||◌, ◌==◌, nat_le, nat_lt, length, List, [], ◌∷◌, Option, Some, None}
+use Rattle.std.specs.Prelude.{◌≡◌, ◌≤◌, ℕ, ◌+◌, ◌-◌, if◌then◌else◌, Bool, true, false, not, ◌&&◌, ◌||◌, ◌==◌, nat_le}
+use Rattle.std.specs.Prelude.{nat_lt, length, List, [], ◌∷◌, Option, Some, None}
 use Rattle.pat_tree.specs.declared.nodes.Item.{Item}
 use Rattle.pat_tree.specs.declared.nodes.AnchorKind.{AnchorKind}
 use Rattle.pat_tree.specs.Nested as tree
@@ -21,7 +22,9 @@ use Rattle.ordered_search.specs.Setting.{Setting, notempty, notempty_atstart, en
 use Rattle.std.specs.Option.{option_or}
 use Rattle.ordered_search.specs.Stream.{Block}
 use Rattle.ordered_search.specs.Moves.{Moves, tread}
-use Rattle.ordered_search.specs.PlaceAnswer.{Walked, PlaceAnswer, Failed, Exhausted, Partial, Matched, MatchLimit, FrameLimit, Loop, answers, Outcome, Abort, last_name, has_hit, blocks, at_verb}
+use Rattle.ordered_search.specs.PlaceAnswer.{Walked, PlaceAnswer, Failed, Exhausted, Partial, Matched, MatchLimit}
+use Rattle.ordered_search.specs.PlaceAnswer.{FrameLimit, Loop, answers, Outcome, Abort, last_name, has_hit, blocks}
+use Rattle.ordered_search.specs.PlaceAnswer.{at_verb}
 use Rattle.frame_state.specs.Ground.{Ground, next_of}
 use Rattle.match_items.specs.Views.{end_of}
 use Rattle.frame_state.specs.Machine.{mark_of, kept_at, ending_of, less, towards}

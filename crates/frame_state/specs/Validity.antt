@@ -5,9 +5,12 @@ use Rattle.pat_tree.specs.Nested.{Nested}
 use Rattle.match_items.specs.Items.{is_none_left}
 use Rattle.frame_store.specs.declared.registers.Span.{Span}
 use Rattle.frame_store.specs.Captures.{Captures}
-use Rattle.frame_store.specs.Entry.{Kept, Entry, Undo, LaterBranch, GroupOpen, CalledGroup, TurnOpen, TurnOrExit, LaterTurn, FewerItems, MoreItems, LookTest, DenialTest, CallOpen, AtomicLeft, SkipPassed, Other, entry_site}
+use Rattle.frame_store.specs.Entry.{Kept, Entry, Undo, LaterBranch, GroupOpen, CalledGroup, TurnOpen, TurnOrExit}
+use Rattle.frame_store.specs.Entry.{LaterTurn, FewerItems, MoreItems, LookTest, DenialTest, CallOpen, AtomicLeft}
+use Rattle.frame_store.specs.Entry.{SkipPassed, Other, entry_site}
 use Rattle.frame_state.specs.declared.machine.Next.{Next}
-use Rattle.frame_state.specs.declared.machine.Next.TheVariants.{Enter, Branch, Offer, Begin, Fewer, More, End, Back, Accept, Act, Leave}
+use Rattle.frame_state.specs.declared.machine.Next.TheVariants.{Enter, Branch, Offer, Begin, Fewer, More, End, Back}
+use Rattle.frame_state.specs.declared.machine.Next.TheVariants.{Accept, Act, Leave}
 use Rattle.frame_state.specs.declared.machine.Spot.{Spot}
 use Rattle.ordered_search.specs.Moves.{size}
 use Rattle.frame_state.specs.Ground.{Ground, tree_of, IsPart}
@@ -24,7 +27,8 @@ module _ (c : Ground) where
   -- None of a frame's own records is of a part that stands past this one in the pattern.
   abbrev pub IsLater : (frame part : ℕ) → List Entry → Type 0
   IsLater frame part [] = Unit {0}
-  IsLater frame part (r ∷ below) = (link_of r ≡ frame → c.rank (entry_site r).node ≤ c.rank part) × IsLater frame part below
+  IsLater frame part (r ∷ below) = (link_of r ≡ frame → c.rank (entry_site r).node ≤ c.rank part) × IsLater frame part
+      below
 
   -- What holds where a path stands over a stack, with so many Steps left and at the depth d.
   pub record IsStanding (left frame : ℕ) (kept : Kept) (d : ℕ) (stack : List Entry) : Type 0 where
@@ -76,7 +80,8 @@ module _ (c : Ground) where
   Suits below (TurnOrExit at kept count) = IsRepeat (tree_of c at.node)
   Suits below (LaterTurn at kept count) = IsRepeat (tree_of c at.node)
   Suits below (FewerItems at kept least last) = (least < last) × (c.stands last ≡ true)
-  Suits below (MoreItems at kept count last) = (count ≤ last) × (c.stands last ≡ true) × HasFurther (tree_of c at.node) count
+  Suits below (MoreItems at kept count last) = (count ≤ last) × (c.stands last ≡ true) × HasFurther
+      (tree_of c at.node) count
   Suits below (LookTest at kept) = IsCondition (tree_of c at.node)
   Suits below (DenialTest at kept) = IsCondition (tree_of c at.node)
   Suits below (CalledGroup at kept) = IsCapture (tree_of c at.node)
@@ -94,11 +99,14 @@ module _ (c : Ground) where
 
   -- a record over those below it, with `left` Steps left and so many registers
   abbrev pub IsSound : ℕ → ℕ → List Entry → Entry → Type 0
-  IsSound left slots below (Undo at slot old) = (0 < slot) × (slot ≤ slots) × SpanStands old × (at.link ≤ length below) × IsPart c at.node × IsContained at.link below
+  IsSound left slots below (Undo at slot old) = (0 < slot) × (slot ≤ slots) × SpanStands old
+      × (at.link ≤ length below) × IsPart c at.node × IsContained at.link below
       × IsLater at.link at.node below
-  IsSound left slots below (Other at) = (at.link ≤ length below) × IsPart c at.node × IsContained at.link below × IsLater at.link at.node below
+  IsSound left slots below (Other at) = (at.link ≤ length below) × IsPart c at.node × IsContained at.link below
+      × IsLater at.link at.node below
   IsSound left slots below r =
-      IsPart c (entry_site r).node × IsStanding left (link_of r) (entry_kept r) (depth_at r (around c below (link_of r))) below × Suits below r
+      IsPart c (entry_site r).node × IsStanding left (link_of r) (entry_kept r)
+      (depth_at r (around c below (link_of r))) below × Suits below r
       × IsLater (link_of r) (entry_site r).node below
 
   abbrev pub AreSound : ℕ → ℕ → List Entry → Type 0
@@ -112,15 +120,20 @@ module _ (c : Ground) where
   IsRunning spot stack (Enter q) =
       IsPart c q × StandsAt spot stack (around c stack spot.frame).depth × IsLater spot.frame q stack
   IsRunning spot stack (Branch q i) =
-      IsPart c q × StandsAt spot stack (around c stack spot.frame).depth × HasBranch (tree_of c q) i × IsLater spot.frame q stack
+      IsPart c q × StandsAt spot stack (around c stack spot.frame).depth × HasBranch (tree_of c q) i × IsLater
+      spot.frame q stack
   IsRunning spot stack (Offer q i) =
-      IsPart c q × StandsAt spot stack ((around c stack spot.frame).depth - i) × IsRepeat (tree_of c q) × IsLater spot.frame q stack
+      IsPart c q × StandsAt spot stack ((around c stack spot.frame).depth - i) × IsRepeat (tree_of c q) × IsLater
+      spot.frame q stack
   IsRunning spot stack (Begin q i exits) =
-      IsPart c q × StandsAt spot stack ((around c stack spot.frame).depth - i) × IsRepeat (tree_of c q) × IsLater spot.frame q stack
+      IsPart c q × StandsAt spot stack ((around c stack spot.frame).depth - i) × IsRepeat (tree_of c q) × IsLater
+      spot.frame q stack
   IsRunning spot stack (Fewer q least last) =
-      IsPart c q × StandsAt spot stack (around c stack spot.frame).depth × (c.stands last ≡ true) × IsLater spot.frame q stack
+      IsPart c q × StandsAt spot stack (around c stack spot.frame).depth × (c.stands last ≡ true) × IsLater spot.frame
+      q stack
   IsRunning spot stack (More q count last) =
-      IsPart c q × StandsAt spot stack (around c stack spot.frame).depth × (count ≤ last) × (c.stands last ≡ true) × IsMany (tree_of c q)
+      IsPart c q × StandsAt spot stack (around c stack spot.frame).depth × (count ≤ last) × (c.stands last ≡ true)
+      × IsMany (tree_of c q)
       × IsLater spot.frame q stack
   IsRunning spot stack End = StandsAt spot stack (around c stack spot.frame).depth
   IsRunning spot stack Back = Unit {0}

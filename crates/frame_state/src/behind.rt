@@ -1,7 +1,8 @@
 //! Where the branches of a part begin: those of a lookbehind at earlier places (pcre2pattern, "Lookbehind assertions").
 ghost use Rattle.std.specs.Prelude.{◌≡◌, All, true};
 ghost use Rattle.frame_state.specs.Ground.{IsPart, tree_of};
-ghost use Rattle.frame_state.specs.Begun.{is_behind, IsFixedPart, begun_place, begun_next, begun_spot, first_begun, first_spot};
+ghost use Rattle.frame_state.specs.Begun.{is_behind, IsFixedPart, begun_place, begun_next, begun_spot, first_begun};
+ghost use Rattle.frame_state.specs.Begun.{first_spot};
 
 use crate::machine::{Next, Spot};
 use crate::searchable::Searchable;

@@ -13,8 +13,8 @@ use crate::machine::{Next, Spot, Stop};
 use crate::searchable::Searchable;
 use pcre_io::{Block, Callouts};
 
-/// What a callout is shown where the path stands: its number, where its string begins and ends in the pattern, and where
-/// the next item stands there and how long it is.
+/// What a callout is shown where the path stands: its number, where its string begins and ends in the pattern, and
+/// where the next item stands there and how long it is.
 pub fn block_of(
     number: u8,
     text_from: u32,

@@ -42,8 +42,8 @@ pub fn open_frame(
     Ok(())
 }
 
-/// Leaves an atomic part by its first outcome: holds a unit more, and pushes the record that gives up what else the part
-/// could do, which is all that stands past the height.
+/// Leaves an atomic part by its first outcome: holds a unit more, and pushes the record that gives up what else the
+/// part could do, which is all that stands past the height.
 pub fn leave(
     limit: u32,
     frame: &Record,

@@ -2,7 +2,8 @@
 ghost use Rattle.std.specs.Prelude.{◌≡◌, ◌<◌, ◌≤◌, ◌&&◌, true, All, length};
 ghost use Rattle.pat_tree.specs.Rules.{class_in};
 ghost use Rattle.match_items.specs.Items as items;
-ghost use Rattle.match_items.specs.Items.{after_item, after_break, after_ref, longest_run, run_reaches, place_before, holds, earliest};
+ghost use Rattle.match_items.specs.Items.{after_item, after_break, after_ref, longest_run, run_reaches, place_before};
+ghost use Rattle.match_items.specs.Items.{holds, earliest};
 ghost use Rattle.match_items.specs.Views.{end_of};
 ghost use Rattle.pat_lengths.specs.Lengths.{only};
 ghost use Rattle.ordered_search.specs.Parts.{same_text};

@@ -1,6 +1,8 @@
 -- The oldest and the later records.
-use Rattle.std.proofs.Common.{◌≡◌, ◌≤◌, ◌<◌, ◌-◌, ◌+◌, ℕ, suc, ◌∙◌, List, [], ◌∷◌, ◌++◌, length, take, drop, get_or, reverse, map, slice_get, Some, sym, ap, arith}
-use Rattle.std.proofs.lemmas.List.{reverse-append, length-reverse, length-drop, length-map, take-append-drop, take-map, drop-map, take_more, drop_at, take_at, get_or_at, get_or_append_left}
+use Rattle.std.proofs.Common.{◌≡◌, ◌≤◌, ◌<◌, ◌-◌, ◌+◌, ℕ, suc, ◌∙◌, List, [], ◌∷◌, ◌++◌, length, take, drop, get_or}
+use Rattle.std.proofs.Common.{reverse, map, slice_get, Some, sym, ap, arith}
+use Rattle.std.proofs.lemmas.List.{reverse-append, length-reverse, length-drop, length-map, take-append-drop}
+use Rattle.std.proofs.lemmas.List.{take-map, drop-map, take_more, drop_at, take_at, get_or_at, get_or_append_left}
 use Rattle.std.proofs.lemmas.Option.{slice_get-get_or}
 use Rattle.frame_store.specs.Stack.{up_to, past}
 
@@ -11,12 +13,14 @@ module _ {X : Type 0} where
 
   pub up_to-reverse : (n : ℕ) (xs : List X) → n ≤ length xs → up_to n (reverse xs) ≡ reverse (take n xs)
   up_to-reverse n xs h =
-      let len : length (reverse (drop n xs)) ≡ length (reverse xs) - n = length-reverse (drop n xs) ∙ length-drop n xs ∙ ap (λ k. k - n) (sym (length-reverse xs)) in
+      let len : length (reverse (drop n xs)) ≡ length (reverse xs) - n = length-reverse (drop n xs) ∙ length-drop n xs
+      ∙ ap (λ k. k - n) (sym (length-reverse xs)) in
       ap (drop (length (reverse xs) - n)) (reverse_split n xs) ∙ drop_at _ _ _ len
 
   pub past-reverse : (n : ℕ) (xs : List X) → n ≤ length xs → past n (reverse xs) ≡ reverse (drop n xs)
   past-reverse n xs h =
-      let len : length (reverse (drop n xs)) ≡ length (reverse xs) - n = length-reverse (drop n xs) ∙ length-drop n xs ∙ ap (λ k. k - n) (sym (length-reverse xs)) in
+      let len : length (reverse (drop n xs)) ≡ length (reverse xs) - n = length-reverse (drop n xs) ∙ length-drop n xs
+      ∙ ap (λ k. k - n) (sym (length-reverse xs)) in
       ap (take (length (reverse xs) - n)) (reverse_split n xs) ∙ take_at _ _ _ len
 
   pub past-map : {Y : Type 0} (f : X → Y) (n : ℕ) (xs : List X) → past n (map f xs) ≡ map f (past n xs)
@@ -26,7 +30,8 @@ module _ {X : Type 0} where
   up_to-map f n xs = ap (λ k. drop (k - n) (map f xs)) (length-map xs f) ∙ drop-map f (length xs - n) xs
 
   -- the newest of the first i items stands first
-  pub reverse-take : (i : ℕ) (xs : List X) (d : X) → 0 < i → i ≤ length xs → reverse (take i xs) ≡ get_or xs (i - 1) d ∷ reverse (take (i - 1) xs)
+  pub reverse-take : (i : ℕ) (xs : List X) (d : X) → 0 < i → i ≤ length xs
+      → reverse (take i xs) ≡ get_or xs (i - 1) d ∷ reverse (take (i - 1) xs)
   reverse-take i xs d p h =
       let e : i ≡ i - 1 + 1 = omega arith in
       ap (λ k. reverse (take k xs)) e ∙ ap reverse (take_more xs (i - 1) d (omega arith))
@@ -68,7 +73,8 @@ module _ {X : Type 0} where
       ∙ ap Some (get_or_at (reverse xs) x [] x (length xs) (length-reverse xs))
 
   -- and the others where they stood without it
-  pub slice_get-reverse-below : (x : X) (xs : List X) (i : ℕ) → i < length xs → slice_get (reverse (x ∷ xs)) i ≡ slice_get (reverse xs) i
+  pub slice_get-reverse-below : (x : X) (xs : List X) (i : ℕ) → i < length xs
+      → slice_get (reverse (x ∷ xs)) i ≡ slice_get (reverse xs) i
   slice_get-reverse-below x xs i h =
       let len : length (reverse xs) ≡ length xs = length-reverse xs in
       let more : length (reverse (x ∷ xs)) ≡ suc (length xs) = length-reverse (x ∷ xs) in

@@ -1,5 +1,6 @@
 -- What a contract sees of the registers: the capture groups and what they have captured (pcre2pattern, "Groups").
-use Rattle.std.specs.Prelude.{ℕ, ◌-◌, ◌<◌, ◌≤◌, ◌==◌, if◌then◌else◌, List, Option, None, length, slice_index_or, slice_set}
+use Rattle.std.specs.Prelude.{ℕ, ◌-◌, ◌<◌, ◌≤◌, ◌==◌, if◌then◌else◌, List, Option, None, length, slice_index_or}
+use Rattle.std.specs.Prelude.{slice_set}
 use Rattle.frame_store.specs.declared.registers.Span.{Span}
 
 -- the text that each group has captured, if any; groups are numbered from 1, and group n stands at n - 1

@@ -2,7 +2,14 @@
 use Rattle.std.specs.Prelude.{◌≡◌, ◌≢◌, ◌<◌, ◌≤◌, ◌+◌, ℕ, List, [], ◌∷◌, map, Option, Some, None, nat_eq, if◌then◌else◌}
 use Rattle.frame_store.specs.declared.registers.Span.{Span}
 use Rattle.frame_store.specs.declared.records.Record.{Record}
-use Rattle.frame_store.specs.declared.kinds.TheConstants.{KIND_UNDO, KIND_LATER_BRANCH, KIND_GROUP_OPEN, KIND_CALLED_GROUP, KIND_TURN_OPEN, KIND_TURN_OR_EXIT, KIND_LATER_TURN, KIND_FEWER_ITEMS, KIND_MORE_ITEMS, KIND_ATOMIC_OPEN, KIND_LOOK_OPEN, KIND_LOOK_ALL_OPEN, KIND_LOOK_TEST, KIND_DENIAL_OPEN, KIND_DENIAL_TEST, KIND_CALL_OPEN, KIND_ATOMIC_LEFT, KIND_MARK_PASSED, KIND_COMMIT_PASSED, KIND_PRUNE_PASSED, KIND_SKIP_PASSED, KIND_THEN_PASSED}
+use Rattle.frame_store.specs.declared.kinds.TheConstants.{KIND_UNDO, KIND_LATER_BRANCH, KIND_GROUP_OPEN}
+use Rattle.frame_store.specs.declared.kinds.TheConstants.{KIND_CALLED_GROUP, KIND_TURN_OPEN, KIND_TURN_OR_EXIT}
+use Rattle.frame_store.specs.declared.kinds.TheConstants.{KIND_LATER_TURN, KIND_FEWER_ITEMS, KIND_MORE_ITEMS}
+use Rattle.frame_store.specs.declared.kinds.TheConstants.{KIND_ATOMIC_OPEN, KIND_LOOK_OPEN, KIND_LOOK_ALL_OPEN}
+use Rattle.frame_store.specs.declared.kinds.TheConstants.{KIND_LOOK_TEST, KIND_DENIAL_OPEN, KIND_DENIAL_TEST}
+use Rattle.frame_store.specs.declared.kinds.TheConstants.{KIND_CALL_OPEN, KIND_ATOMIC_LEFT, KIND_MARK_PASSED}
+use Rattle.frame_store.specs.declared.kinds.TheConstants.{KIND_COMMIT_PASSED, KIND_PRUNE_PASSED, KIND_SKIP_PASSED}
+use Rattle.frame_store.specs.declared.kinds.TheConstants.{KIND_THEN_PASSED}
 
 -- the pattern's part that left a record, and the height of the innermost part still open then
 pub record Site : Type 0 where

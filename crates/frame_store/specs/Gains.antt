@@ -1,5 +1,6 @@
 -- What the undo records of a stretch of a store give back, all at once.
-use Rattle.std.specs.Prelude.{◌≡◌, ℕ, ◌-◌, ◌<◌, ◌≤◌, List, [], ◌∷◌, length, take, drop, reverse, Option, Some, None, slice_index_or, slice_set}
+use Rattle.std.specs.Prelude.{◌≡◌, ℕ, ◌-◌, ◌<◌, ◌≤◌, List, [], ◌∷◌, length, take, drop, reverse, Option, Some, None}
+use Rattle.std.specs.Prelude.{slice_index_or, slice_set}
 use Rattle.frame_store.specs.declared.registers.Span.{Span}
 use Rattle.frame_store.specs.declared.records.Record.{Record}
 use Rattle.frame_store.specs.declared.gains.Gains.{Gains}
@@ -44,7 +45,8 @@ stretch low high records = entries (reverse (drop low (take high records)))
 -- they are those of a stretch of these records, if of any
 abbrev pub IsOf : Gains → List Record → Type 0
 IsOf g records =
-    (g.high ≤ length records) × (0 < g.high → (g.low ≤ g.high) × IsGathered g.values.items (stretch g.low g.high records))
+    (g.high ≤ length records) × (0 < g.high → (g.low ≤ g.high) × IsGathered g.values.items
+    (stretch g.low g.high records))
 
 -- they are those of a stretch that begins at a height or past it
 pub record IsBegun (g : Gains) (to : ℕ) (records : List Record) : Type 0 where

@@ -50,7 +50,8 @@ TrailLaw =
 
 -- of two lists, that on top is taken back first
 abbrev pub AppendLaw : Type 0
-AppendLaw = (newer older : List Entry) (caps : Captures) → undone (newer ++ older) caps ≡ undone older (undone newer caps)
+AppendLaw = (newer older : List Entry) (caps : Captures)
+    → undone (newer ++ older) caps ≡ undone older (undone newer caps)
 
 -- only undo records count
 abbrev pub FilterLaw : Type 0

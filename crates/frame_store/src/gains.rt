@@ -1,7 +1,8 @@
 //! What the undo records of a stretch of a store give back, all at once.
 ghost use Rattle.std.specs.Prelude.{◌≡◌, ◌≤◌, ◌-◌, ◌++◌, List, length, drop, reverse};
 ghost use Rattle.frame_store.specs.Entry.{Entry, entries, entry_of};
-ghost use Rattle.frame_store.specs.Gains.{IsGathered, IsOf, IsBegun, IsForgotten, older_gain, newer_gain, overlaid, stretch};
+ghost use Rattle.frame_store.specs.Gains.{IsGathered, IsOf, IsBegun, IsForgotten, older_gain, newer_gain, overlaid};
+ghost use Rattle.frame_store.specs.Gains.{stretch};
 
 use crate::kinds::KIND_UNDO;
 use crate::records::Record;
@@ -9,8 +10,8 @@ use crate::registers::Span;
 use crate::store::{Memory, kept_value};
 use std::alloc::Global;
 
-/// What the undo records from one height to another give back: for each register the value, where they give it one. With
-/// the upper height 0 it's of no records, whatever the values are.
+/// What the undo records from one height to another give back: for each register the value, where they give it one.
+/// With the upper height 0 it's of no records, whatever the values are.
 #[derive(Drop)]
 pub(crate) struct Gains {
     pub(crate) low: usize,

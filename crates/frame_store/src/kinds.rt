@@ -1,16 +1,17 @@
 //! The kinds of records: what each record of a search stands for.
 //!
-//! A search follows one path through the pattern, as pcre2matching describes it. Each event on the path that can be taken
-//! back, or whose end is still to come, leaves a record, and the newest is gone back to first where the path fails.
+//! A search follows one path through the pattern, as pcre2matching describes it. Each event on the path that can be
+//! taken back, or whose end is still to come, leaves a record, and the newest is gone back to first where the path
+//! fails.
 //!
-//! `node` and `link` say where the event was. But for undo records, the fields from `mark` to `units` and from `place` to
-//! `early` keep the path as it was at the event, so that it can be taken up again. What `slot`, `count`, `from` and `to`
-//! mean is said at each kind that has them. A kind that is not listed here has nothing left to try.
+//! `node` and `link` say where the event was. But for undo records, the fields from `mark` to `units` and from `place`
+//! to `early` keep the path as it was at the event, so that it can be taken up again. What `slot`, `count`, `from` and
+//! `to` mean is said at each kind that has them. A kind that is not listed here has nothing left to try.
 //!
 //! The parts of a pattern that leave records are those of pcre2pattern, from "Vertical bar" to "Backtracking control".
 
-/// A register was written. `slot` is the register, and its old value is the span from `from` to `to` where `count` is 1,
-/// and unset where `count` is another number.
+/// A register was written. `slot` is the register, and its old value is the span from `from` to `to` where `count` is
+/// 1, and unset where `count` is another number.
 pub const KIND_UNDO: u8 = 0;
 /// A branch began, and a later one is left to try, which is branch number `count`.
 pub const KIND_LATER_BRANCH: u8 = 1;
@@ -47,13 +48,14 @@ pub const KIND_CALL_OPEN: u8 = 15;
 pub const KIND_ATOMIC_LEFT: u8 = 16;
 /// MARK was passed, or ACCEPT or FAIL with a name. The name is `mark`, met at `place`.
 pub const KIND_MARK_PASSED: u8 = 17;
-/// COMMIT was passed. Where the path fails, the search goes back to height `from` at once, which ends it where that is 0.
+/// COMMIT was passed. Where the path fails, the search goes back to height `from` at once, which ends it where that is
+/// 0.
 pub const KIND_COMMIT_PASSED: u8 = 18;
 /// PRUNE was passed. Where the path fails, the search goes back to height `from` at once, which ends it at this start
 /// place where that is 0.
 pub const KIND_PRUNE_PASSED: u8 = 19;
-/// SKIP was passed. Where the path fails, the search goes back to height `from` at once. Where that is 0, it ends at this
-/// start place, and the next one is `to`.
+/// SKIP was passed. Where the path fails, the search goes back to height `from` at once. Where that is 0, it ends at
+/// this start place, and the next one is `to`.
 pub const KIND_SKIP_PASSED: u8 = 20;
 /// THEN was passed in the branch `node`. Where the path fails, that branch has failed.
 pub const KIND_THEN_PASSED: u8 = 21;

@@ -4,8 +4,8 @@ ghost use Rattle.frame_store.specs.Entry.{KnownKindLaw, OtherEntryLaw, UndoKindL
 ghost use Rattle.frame_store.specs.Undo.{TrailLaw, AppendLaw, FilterLaw, PlainLaw, LengthLaw, OtherKindLaw};
 ghost use Rattle.frame_store.specs.Rows.{AreRows};
 
-/// The way back undoes any writes to registers whose old values were all pushed before them. Only undo records count, so
-/// that it does so whatever other records stand between them.
+/// The way back undoes any writes to registers whose old values were all pushed before them. Only undo records count,
+/// so that it does so whatever other records stand between them.
 pub fn undo_laws()
     ensures trail { TrailLaw }
     ensures appended { AppendLaw }

@@ -1,8 +1,8 @@
-/// What one event of a search leaves behind. The fields from `mark` on that `kinds` says nothing of at the kind keep the
-/// path as it was at the event.
+/// What one event of a search leaves behind. The fields from `mark` on that `kinds` says nothing of at the kind keep
+/// the path as it was at the event.
 ///
-/// A record has at most 80 bytes, so that a bound on the records of a search bounds the memory that they take. The captures
-/// stand beside them.
+/// A record has at most 80 bytes, so that a bound on the records of a search bounds the memory that they take. The
+/// captures stand beside them.
 #[derive(Clone, Copy, Debug, PartialEq, Eq)]
 pub struct Record {
     /// One of `kinds`. A record of any other kind has nothing left to try.

@@ -1,4 +1,5 @@
-ghost use Rattle.std.specs.Prelude.{◌≡◌, ◌+◌, ◌≤◌, [], ◌++◌, length, replicate, None, IsOk, OnOk, OnErr, vec_capacity, min};
+ghost use Rattle.std.specs.Prelude.{◌≡◌, ◌+◌, ◌≤◌, [], ◌++◌, length, replicate, None, IsOk, OnOk, OnErr};
+ghost use Rattle.std.specs.Prelude.{vec_capacity, min};
 ghost use Rattle.frame_store.specs.Captures.{capture, with_capture, HasGroup};
 
 use crate::store::Memory;

@@ -1,4 +1,5 @@
-ghost use Rattle.std.specs.Prelude.{◌≡◌, ◌+◌, ◌-◌, ◌<◌, ◌≤◌, max, [], ◌∷◌, length, drop, reverse, Some, All, IsOk, OnOk, OnErr, MatchOption, slice_get, vec_capacity};
+ghost use Rattle.std.specs.Prelude.{◌≡◌, ◌+◌, ◌-◌, ◌<◌, ◌≤◌, max, [], ◌∷◌, length, drop, reverse, Some, All, IsOk};
+ghost use Rattle.std.specs.Prelude.{OnOk, OnErr, MatchOption, slice_get, vec_capacity};
 ghost use Rattle.frame_store.specs.Stack.{room, up_to, past};
 ghost use Rattle.frame_store.specs.Entry.{entries, entry_of, kept_value};
 ghost use Rattle.frame_store.specs.Undo.{undone, taken_back, HasSlot};

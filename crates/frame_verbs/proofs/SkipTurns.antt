@@ -1,5 +1,7 @@
 -- The steps of the machine at SKIP of a name.
-use Rattle.std.proofs.Common.{◌≡◌, ◌≢◌, ℕ, suc, ◌-◌, ◌<◌, ◌≤◌, ◌∙◌, Bool, true, false, List, [], ◌∷◌, ◌++◌, reverse, All, Option, Some, None, length, slice_get, inl, inr, refl, sym, ap, subst, arith, length-append}
+use Rattle.std.proofs.Common.{◌≡◌, ◌≢◌, ℕ, suc, ◌-◌, ◌<◌, ◌≤◌, ◌∙◌, Bool, true, false, List, [], ◌∷◌, ◌++◌, reverse}
+use Rattle.std.proofs.Common.{All, Option, Some, None, length, slice_get, inl, inr, refl, sym, ap, subst, arith}
+use Rattle.std.proofs.Common.{length-append}
 use Rattle.std.proofs.lemmas.List.Elements.{All-nil, All-cons, All-head, All-tail}
 use Rattle.std.proofs.lemmas.Bool.{cases_eq}
 use Rattle.pat_tree.specs.declared.nodes.Node.TheVariants as node
@@ -34,7 +36,8 @@ module _ (c : Ground) where
   heard_deep : (above base : List Entry) (h : ℕ) → h ≤ length base → heard (above ++ base) h ≡ heard base h
   heard_deep [] base h le = refl
   heard_deep (p ∷ above) base h le =
-      heard_below c p (above ++ base) h (λ e. omega (arith, e, le, length-append above base)) ∙ heard_deep above base h le
+      heard_below c p (above ++ base) h (λ e. omega (arith, e, le, length-append above base))
+      ∙ heard_deep above base h le
 
   pub heard_none : (stack : List Entry) → heard stack 0 ≡ []
   unfolding heard
@@ -51,14 +54,16 @@ told_by_none (MarkPassed at kept) names n = absurd (n refl)
 told_by_none _ names n = refl
 
 -- of the records
-module _ (c : Ground) (records : List Record) (a : AreHeard (entries records)) (height i : ℕ) (is : height ≡ suc i) (p : Record) (at : slice_get (reverse records) i ≡ Some p) where
+module _ (c : Ground) (records : List Record) (a : AreHeard (entries records)) (height i : ℕ) (is : height ≡ suc i)
+    (p : Record) (at : slice_get (reverse records) i ≡ Some p) where
   around_it : Split (entries records) (suc i) (entry_of p)
   around_it = split records i p at
 
   inner : AreHeard (entry_of p ∷ around_it.below)
   inner = deeper around_it.above (entry_of p ∷ around_it.below) (subst AreHeard around_it.is a)
 
-  heard_one : heard (entries records) height ≡ heard_by (entry_of p) (heard around_it.below (entry_kept (entry_of p)).passed)
+  heard_one : heard (entries records) height ≡ heard_by (entry_of p)
+      (heard around_it.below (entry_kept (entry_of p)).passed)
   heard_one =
       ap (heard (entries records)) is
       ∙ ap (λ (es : List Entry). heard es (suc i)) around_it.is
@@ -96,10 +101,12 @@ module _ (g : Setting) (n m place : ℕ) (names : List (ℕ × ℕ)) where
   same_as : (k : ℕ) → k ≡ m → same_text (verb_name g n) (verb_name g k) ≡ same_text (verb_name g n) (verb_name g m)
   same_as k is = ap (λ (j : ℕ). same_text (verb_name g n) (verb_name g j)) is
 
-  pub skip_here : (k : ℕ) → k ≡ m → true ≡ same_text (verb_name g n) (verb_name g k) → skip_by (Some place) ≡ skip_to g n ((m, place) ∷ names)
+  pub skip_here : (k : ℕ) → k ≡ m → true ≡ same_text (verb_name g n) (verb_name g k)
+      → skip_by (Some place) ≡ skip_to g n ((m, place) ∷ names)
   skip_here k is e = ap choice (e ∙ same_as k is)
 
-  pub skip_before : (k : ℕ) → k ≡ m → false ≡ same_text (verb_name g n) (verb_name g k) → skip_to g n names ≡ skip_to g n ((m, place) ∷ names)
+  pub skip_before : (k : ℕ) → k ≡ m → false ≡ same_text (verb_name g n) (verb_name g k)
+      → skip_to g n names ≡ skip_to g n ((m, place) ∷ names)
   skip_before k is e = ap choice (e ∙ same_as k is)
 
 -- Of the records of a path.
@@ -112,7 +119,8 @@ module _ (c : Ground) (left slots : ℕ) where
   abbrev Stands : ℕ × ℕ → Type 0
   Stands m = c.stands m.1 ≡ true
 
-  told_stands : (r : Entry) (below : List Entry) (names : List (ℕ × ℕ)) → IsSound c left slots below r → All Stands names → All Stands (heard_by r names)
+  told_stands : (r : Entry) (below : List Entry) (names : List (ℕ × ℕ)) → IsSound c left slots below r
+      → All Stands names → All Stands (heard_by r names)
   told_stands (MarkPassed at kept) below names s a = All-cons Stands (kept.mark - 1, kept.place) names s.1.here a
   told_stands _ below names s a = All-nil Stands
 
@@ -141,10 +149,12 @@ module _ (c : Ground) (left slots : ℕ) where
     either_stands m x here later true e = ap c.stands (ap place_in e) ∙ here
     either_stands m x here later false e = later e
 
-    found_stands : (names : List (ℕ × ℕ)) → All Stands names → by_verb (skip p) ≡ skip_to c.setting n names → c.stands p ≡ true
+    found_stands : (names : List (ℕ × ℕ)) → All Stands names → by_verb (skip p) ≡ skip_to c.setting n names
+        → c.stands p ≡ true
     found_stands [] a e = absurd (not_exhausted p e)
     found_stands (m ∷ names) a e =
-        either_stands m (skip_to c.setting n names) (All-head Stands m names a) (λ z. found_stands names (All-tail Stands m names a) z)
+        either_stands m (skip_to c.setting n names) (All-head Stands m names a)
+        (λ z. found_stands names (All-tail Stands m names a) z)
         (same_text (verb_name c.setting n) (verb_name c.setting m.0)) e
 
 -- The machine comes to it.
@@ -154,12 +164,14 @@ abbrev pub skip_entry : Spot → ℕ → Option ℕ → Entry
 skip_entry spot q None = SkipPassed (record { node = q; link = spot.frame }) (kept_at spot) 1 spot.place
 skip_entry spot q (Some p) = SkipPassed (record { node = q; link = spot.frame }) (kept_at spot) 0 p
 
-pub skip_recorded : (spot : Spot) (q : ℕ) (found : Option ℕ) → entry_of (skip_record spot q found) ≡ skip_entry spot q found
+pub skip_recorded : (spot : Spot) (q : ℕ) (found : Option ℕ)
+    → entry_of (skip_record spot q found) ≡ skip_entry spot q found
 unfolding entry_in
 skip_recorded spot q None = refl
 skip_recorded spot q (Some p) = refl
 
-module _ (c : Ground) (ok : IsGround c) (q : ℕ) (spot : Spot) (stack : List Entry) (caps : Captures) (v : IsValid c (conf (Enter q) spot stack caps)) where
+module _ (c : Ground) (ok : IsGround c) (q : ℕ) (spot : Spot) (stack : List Entry) (caps : Captures)
+    (v : IsValid c (conf (Enter q) spot stack caps)) where
   abbrev S : State
   S = spot_state c spot stack caps
 
@@ -177,21 +189,33 @@ module _ (c : Ground) (ok : IsGround c) (q : ℕ) (spot : Spot) (stack : List En
 
   module _ (n : ℕ) (i : IsNode c q (node.VerbNode (verb.Skip (Some n)))) where
     abbrev leads : Ending → Moves
-    leads e = pause (holding c.setting 1 S (λ t. after_it reached t (pause (pause (ended e (fail c stack caps) handed)))))
+    leads e = pause
+        (holding c.setting 1 S (λ t. after_it reached t (pause (pause (ended e (fail c stack caps) handed)))))
 
-    at_skip : (found : Option ℕ) → skip_by found ≡ skip_to c.setting n (heard stack spot.passed) → ahead c (conf (Enter q) spot stack caps) ≡ leads (skip_by found)
+    at_skip : (found : Option ℕ) → skip_by found ≡ skip_to c.setting n (heard stack spot.passed)
+        → ahead c (conf (Enter q) spot stack caps) ≡ leads (skip_by found)
     at_skip found is = at_verb c ok q spot stack caps v (verb.Skip (Some n)) i ∙ ap leads (sym is)
 
-    pub turn_skip_to : (found : Option ℕ) → skip_by found ≡ skip_to c.setting n (heard stack spot.passed) → spot.units < c.setting.matching.frame_limit →
-        Advances c (conf (Enter q) spot stack caps) (conf (towards (next_of c q)) (held_spot spot) (skip_entry spot q found ∷ stack) caps)
+    pub turn_skip_to : (found : Option ℕ) → skip_by found ≡ skip_to c.setting n (heard stack spot.passed)
+        → spot.units < c.setting.matching.frame_limit →
+        Advances c (conf (Enter q) spot stack caps)
+        (conf (towards (next_of c q)) (held_spot spot) (skip_entry spot q found ∷ stack) caps)
     unfolding fail
     turn_skip_to None is room =
-        turn_acting c ok q spot stack caps v (skip_entry spot q None) (fail c stack caps) refl refl refl (v.running.0, v.running.1, v.running.1.here, v.running.2) room (at_skip None is)
+        turn_acting c ok q spot stack caps v (skip_entry spot q None) (fail c stack caps) refl refl refl
+        (v.running.0, v.running.1, v.running.1.here, v.running.2) room (at_skip None is)
     turn_skip_to (Some p) is room =
-        turn_acting c ok q spot stack caps v (skip_entry spot q (Some p)) (handed (skip p)) refl refl refl
-        (v.running.0, v.running.1, found_stands c spot.left (length caps) n p (heard stack spot.passed) (heard_stands c spot.left (length caps) stack v.records spot.passed) is, v.running.2) room (at_skip (Some p) is)
+        turn_acting c ok q spot stack caps v (skip_entry spot q (Some p)) (handed (skip p)) refl refl refl (
+          v.running.0,
+          v.running.1,
+          found_stands c spot.left (length caps) n p (heard stack spot.passed)
+              (heard_stands c spot.left (length caps) stack v.records spot.passed) is,
+          v.running.2,
+        ) room
+        (at_skip (Some p) is)
 
     pub stop_skip_to : c.setting.matching.frame_limit ≤ spot.units →
         tells c.setting spot (ahead c (conf (Enter q) spot stack caps)) ≡ told spot.last (answers FrameLimit)
     stop_skip_to full =
-        ap (told spot.last) (over_units c spot.left _ _ (at_verb c ok q spot stack caps v (verb.Skip (Some n)) i) (holding_full c.setting _ _ full))
+        ap (told spot.last) (over_units c spot.left _ _ (at_verb c ok q spot stack caps v (verb.Skip (Some n)) i)
+        (holding_full c.setting _ _ full))

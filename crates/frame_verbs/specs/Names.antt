@@ -17,7 +17,8 @@ named_last last (Some n) = record last { name = n + 1 }
 -- its record, which has the name for its mark
 abbrev pub named_entry : Spot → ℕ → Option ℕ → Entry
 named_entry spot q None = MarkPassed (record { node = q; link = spot.frame }) (kept_at spot)
-named_entry spot q (Some n) = MarkPassed (record { node = q; link = spot.frame }) (kept_at (record spot { mark = n + 1 }))
+named_entry spot q (Some n) = MarkPassed (record { node = q; link = spot.frame })
+    (kept_at (record spot { mark = n + 1 }))
 
 -- and the path after it, over so many records
 abbrev pub named_spot : Spot → ℕ → Option ℕ → Spot

@@ -127,8 +127,8 @@ fn began<S: Searchable>(on: &S, store: &Store, frame: u32, branch: u32, top: usi
     began
 }
 
-/// The height down to which a THEN in a part gives up what was done, so that the innermost branch around it fails, or the
-/// innermost frame that catches it; none where the search of this start place ends.
+/// The height down to which a THEN in a part gives up what was done, so that the innermost branch around it fails, or
+/// the innermost frame that catches it; none where the search of this start place ends.
 fn left_height<S: Searchable>(on: &S, at: u32, spot: &Spot, store: &Store) -> Option<usize>
     requires sound { AreSoundParts (S.searched on.now) (entries store.now.records) }
     requires part { IsPart (S.searched on.now) at }

@@ -156,8 +156,8 @@ fn meet(name: Option<u32>, spot: &mut Spot)
     }
 }
 
-/// Goes on past a verb that acts when it is backtracked onto: leaves its record of this kind, which has the search go on
-/// at a place if it is SKIP. The path holds a unit more.
+/// Goes on past a verb that acts when it is backtracked onto: leaves its record of this kind, which has the search go
+/// on at a place if it is SKIP. The path holds a unit more.
 fn pass_acting<S: Searchable>(
     on: &S,
     at: u32,

@@ -37,6 +37,7 @@ name_absent b [] h = refl
 name_absent b (r ∷ rs) h = rw (name_differs b r.names h.0) (name_absent b rs h.1)
 
 -- past rows without the name
-pub name_past : (b : List ℕ) (rows more : List Row) → NoName b rows → find (has_name b) (rows ++ more) ≡ find (has_name b) more
+pub name_past : (b : List ℕ) (rows more : List Row) → NoName b rows
+    → find (has_name b) (rows ++ more) ≡ find (has_name b) more
 name_past b [] more h = refl
 name_past b (r ∷ rs) more h = rw (name_differs b r.names h.0) (name_past b rs more h.1)

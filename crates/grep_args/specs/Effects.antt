@@ -1,5 +1,6 @@
 -- What each option does to the plan (pcre2grep, "OPTIONS").
-use Rattle.std.specs.Prelude.{ℕ, List, [], ◌∷◌, ◌++◌, Bool, true, false, ◌&&◌, ◌||◌, Option, Some, None, Result, Ok, Err, codes, bytes_eq, nat_le, if◌then◌else◌}
+use Rattle.std.specs.Prelude.{ℕ, List, [], ◌∷◌, ◌++◌, Bool, true, false, ◌&&◌, ◌||◌, Option, Some, None, Result, Ok}
+use Rattle.std.specs.Prelude.{Err, codes, bytes_eq, nat_le, if◌then◌else◌}
 use Rattle.std.specs.Option.{option_or, ok_or}
 use Rattle.pat_tree.specs.declared.options.Newline.TheVariants.{Lf}
 use Rattle.pat_tree.specs.Newlines.{newline_in_any_case}
@@ -12,11 +13,15 @@ use Rattle.grep_args.specs.declared.plan.GrepPlan.{GrepPlan}
 use Rattle.grep_args.specs.declared.usage.UsageKind.{UsageKind}
 use Rattle.grep_args.specs.declared.usage.UsageKind.TheVariants.{BadNumber, BadValue, Exclude}
 use Rattle.grep_args.specs.declared.options.Flag.{Flag}
-use Rattle.grep_args.specs.declared.options.Flag.TheVariants.{Count, TotalCount, FixedStrings, IgnoreCase, Utf, LineNumber, Quiet, NoMessages, InvertMatch, WordRegex, LineRegex, Recursive}
+use Rattle.grep_args.specs.declared.options.Flag.TheVariants.{Count, TotalCount, FixedStrings, IgnoreCase, Utf}
+use Rattle.grep_args.specs.declared.options.Flag.TheVariants.{LineNumber, Quiet, NoMessages, InvertMatch, WordRegex}
+use Rattle.grep_args.specs.declared.options.Flag.TheVariants.{LineRegex, Recursive}
 use Rattle.grep_args.specs.declared.options.PlainOption.{PlainOption}
 use Rattle.grep_args.specs.declared.options.PlainOption.TheVariants.{Switch, Names, Binary, Offsets, Help, NoEffect}
 use Rattle.grep_args.specs.declared.options.NumberOption.{NumberOption}
-use Rattle.grep_args.specs.declared.options.NumberOption.TheVariants.{AfterContext, BeforeContext, Context, MatchLimit, FrameLimit, BufferSize, MaxBufferSize, MaxCount}
+use Rattle.grep_args.specs.declared.options.NumberOption.TheVariants.{AfterContext, BeforeContext, Context}
+use Rattle.grep_args.specs.declared.options.NumberOption.TheVariants.{MatchLimit, FrameLimit, BufferSize}
+use Rattle.grep_args.specs.declared.options.NumberOption.TheVariants.{MaxBufferSize, MaxCount}
 use Rattle.grep_args.specs.declared.options.FilterOption.{FilterOption}
 use Rattle.grep_args.specs.declared.options.FilterOption.TheVariants as filter
 use Rattle.grep_args.specs.declared.options.ValuedOption.{ValuedOption}
@@ -102,7 +107,8 @@ same_offsets _ _ = false
 
 abbrev pub offsets_shown : OffsetMode → Effect
 offsets_shown mode plan =
-    if is_empty plan.only_matching && (no_offsets plan.offsets || same_offsets plan.offsets mode) then Ok (record plan { offsets = mode })
+    if is_empty plan.only_matching && (no_offsets plan.offsets || same_offsets plan.offsets mode) then Ok
+    (record plan { offsets = mode })
     else Err Exclude
 
 abbrev pub group_shown : ℕ → Effect
@@ -130,7 +136,8 @@ ranged low high text = within low high (number_of text)
 abbrev pub number_effect : NumberOption → List ℕ → Effect
 number_effect AfterContext text plan = ranged 0 greatest text >>= λ n. Ok (record plan { after_context = n })
 number_effect BeforeContext text plan = ranged 0 greatest text >>= λ n. Ok (record plan { before_context = n })
-number_effect Context text plan = ranged 0 greatest text >>= λ n. Ok (record plan { after_context = n; before_context = n })
+number_effect Context text plan = ranged 0 greatest text >>= λ n. Ok
+    (record plan { after_context = n; before_context = n })
 number_effect MatchLimit text plan = ranged 0 greatest text >>= λ n. Ok (record plan { match_limit = n })
 number_effect FrameLimit text plan = ranged 0 greatest text >>= λ n. Ok (record plan { frame_limit = n })
 number_effect BufferSize text plan = ranged 0 greatest text >>= λ n. Ok plan
@@ -164,7 +171,8 @@ value_effect valued.File text plan = Ok (record plan { pattern_files = plan.patt
 value_effect valued.Label text plan = Ok (record plan { label = text })
 value_effect valued.OmSeparator text plan = Ok (record plan { om_separator = text })
 value_effect valued.BinaryFiles text plan = listed (binary_of text) >>= λ mode. Ok (record plan { binary = mode })
-value_effect valued.Newline text plan = listed (newline_in_any_case text) >>= λ newline. Ok (record plan { newline = newline })
+value_effect valued.Newline text plan = listed (newline_in_any_case text) >>= λ newline. Ok
+    (record plan { newline = newline })
 
 -- the number of a group, joined to `-o`
 abbrev pub group_effect : List ℕ → Effect

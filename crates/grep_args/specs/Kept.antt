@@ -2,7 +2,8 @@
 use Rattle.std.specs.Prelude.{Bool, true, false}
 use Rattle.grep_args.specs.Effects.{◌>>=◌, Effect}
 use Rattle.grep_args.specs.declared.options.ValuedOption.{ValuedOption}
-use Rattle.grep_args.specs.declared.options.ValuedOption.TheVariants.{Number, Filter, Regex, File, Label, OmSeparator, BinaryFiles, Newline}
+use Rattle.grep_args.specs.declared.options.ValuedOption.TheVariants.{Number, Filter, Regex, File, Label}
+use Rattle.grep_args.specs.declared.options.ValuedOption.TheVariants.{OmSeparator, BinaryFiles, Newline}
 
 -- the last value counts, but patterns and their files add up
 abbrev pub keeps_one : ValuedOption → Bool

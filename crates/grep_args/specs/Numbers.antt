@@ -1,5 +1,6 @@
 -- The numbers among the values (pcre2grep, "OPTIONS").
-use Rattle.std.specs.Prelude.{ℕ, ◌*◌, List, [], ◌∷◌, length, drop, take_while, Option, Some, None, codes, bytes_eq, if◌then◌else◌}
+use Rattle.std.specs.Prelude.{ℕ, ◌*◌, List, [], ◌∷◌, length, drop, take_while, Option, Some, None, codes, bytes_eq}
+use Rattle.std.specs.Prelude.{if◌then◌else◌}
 use Rattle.std.specs.Option.{option_and_then}
 use Rattle.std.specs.Char.{is_ascii_digit}
 use Rattle.std.specs.Str.Parse.{digits_value}
@@ -23,5 +24,6 @@ has_digits (digit ∷ digits) = Some (digit ∷ digits)
 -- a number: one or more decimal digits, then nothing, a `K` or an `M`; it is at most 4,294,967,295
 abbrev pub number_of : List ℕ → Option ℕ
 number_of text =
-    option_and_then (λ digits. option_and_then (λ unit. within_u32 (digits_value 10 digits * unit)) (unit_of (drop (length digits) text)))
+    option_and_then (λ digits. option_and_then (λ unit. within_u32 (digits_value 10 digits * unit))
+    (unit_of (drop (length digits) text)))
     (has_digits (take_while is_ascii_digit text))

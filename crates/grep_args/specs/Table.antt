@@ -10,7 +10,8 @@ use Rattle.grep_args.specs.declared.options.Flag.TheVariants as flag
 use Rattle.grep_args.specs.declared.options.NumberOption.TheVariants as number
 use Rattle.grep_args.specs.declared.options.FilterOption.TheVariants as filter
 use Rattle.grep_args.specs.declared.options.PlainOption.TheVariants.{Switch, Names, Binary, Offsets, Help, NoEffect}
-use Rattle.grep_args.specs.declared.options.ValuedOption.TheVariants.{Number, Filter, Regex, File, Label, OmSeparator, BinaryFiles, Newline}
+use Rattle.grep_args.specs.declared.options.ValuedOption.TheVariants.{Number, Filter, Regex, File, Label}
+use Rattle.grep_args.specs.declared.options.ValuedOption.TheVariants.{OmSeparator, BinaryFiles, Newline}
 use Rattle.grep_args.specs.declared.options.GrepOption.{GrepOption}
 use Rattle.grep_args.specs.declared.options.GrepOption.TheVariants.{Plain, OnlyMatching, Valued}
 

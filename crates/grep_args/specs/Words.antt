@@ -1,5 +1,6 @@
 -- The plan of pcre2grep's words, or the first word at fault (pcre2grep, "OPTIONS" and "OPTIONS WITH DATA").
-use Rattle.std.specs.Prelude.{◌≡◌, ⊤, ℕ, ◌+◌, ◌-◌, ◌==◌, List, [], ◌∷◌, Bool, true, false, ◌||◌, Option, Some, None, Result, Ok, Err, bytes_eq, slice_get, if◌then◌else◌}
+use Rattle.std.specs.Prelude.{◌≡◌, ⊤, ℕ, ◌+◌, ◌-◌, ◌==◌, List, [], ◌∷◌, Bool, true, false, ◌||◌, Option, Some, None}
+use Rattle.std.specs.Prelude.{Result, Ok, Err, bytes_eq, slice_get, if◌then◌else◌}
 use Rattle.std.specs.List.{list_any, before_first, after_first}
 use Rattle.std.specs.Char.{is_ascii_digit}
 use Rattle.grep_args.specs.declared.plan.GrepPlan.{GrepPlan}
@@ -44,7 +45,8 @@ starts_with_digit (b ∷ bytes) = is_ascii_digit b
 -- an option with the rest of its word, where `others` are the letters of that rest
 module _ (word : ℕ) (rest : List ℕ) (others : GrepPlan → Taken) where
   abbrev pub valued_letter : ValuedOption → GrepPlan → Taken
-  valued_letter option plan = if bytes_eq rest [] then Ok (plan, Some option) else complete (told word (value_effect option rest plan))
+  valued_letter option plan = if bytes_eq rest [] then Ok (plan, Some option) else complete
+      (told word (value_effect option rest plan))
 
   abbrev pub letter : Option GrepOption → GrepPlan → Taken
   letter None plan = fault UnknownOption word

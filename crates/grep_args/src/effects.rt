@@ -1,6 +1,7 @@
 //! What each option does to the plan.
 ghost use Rattle.std.specs.Prelude.{◌≡◌, OnOk, IfOk, IfErr, Ok, Err};
-ghost use Rattle.grep_args.specs.Effects.{switched, plain_effect, offsets_shown, group_shown, group_effect, ranged, binary_of, number_effect, filter_effect, value_effect};
+ghost use Rattle.grep_args.specs.Effects.{switched, plain_effect, offsets_shown, group_shown, group_effect, ranged};
+ghost use Rattle.grep_args.specs.Effects.{binary_of, number_effect, filter_effect, value_effect};
 ghost use Rattle.grep_args.specs.Stopping.{Stops};
 
 use crate::numbers::number;

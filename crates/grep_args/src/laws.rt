@@ -12,7 +12,8 @@ ghost use Rattle.grep_args.specs.declared.plan.OffsetMode.TheVariants.{Lines, Fi
 ghost use Rattle.grep_args.specs.declared.options.PlainOption.TheVariants.{Names, Binary, Offsets};
 ghost use Rattle.grep_args.specs.declared.options.NumberOption.TheVariants.{AfterContext, BeforeContext, Context};
 ghost use Rattle.grep_args.specs.declared.options.ValuedOption.{ValuedOption};
-ghost use Rattle.grep_args.specs.declared.usage.UsageKind.TheVariants.{UnknownOption, MissingValue, BadNumber, BadValue, Exclude, NoPattern};
+ghost use Rattle.grep_args.specs.declared.usage.UsageKind.TheVariants.{UnknownOption, MissingValue, BadNumber};
+ghost use Rattle.grep_args.specs.declared.usage.UsageKind.TheVariants.{BadValue, Exclude, NoPattern};
 
 /// Lists of words with their plans.
 #[tactic(auto, unfolding(crate::specs::Words::plan_of))]

@@ -1,10 +1,12 @@
 //! The words one after the other, up to the first that is no option.
-ghost use Rattle.std.specs.Prelude.{◌≡◌, ◌≢◌, Option, MatchOption, ◌+◌, ◌<◌, [], ◌∷◌, List, ℕ, map, string_bytes, IfOk, IfErr, Ok, Some, None};
+ghost use Rattle.std.specs.Prelude.{◌≡◌, ◌≢◌, Option, MatchOption, ◌+◌, ◌<◌, [], ◌∷◌, List, ℕ, map, string_bytes};
+ghost use Rattle.std.specs.Prelude.{IfOk, IfErr, Ok, Some, None};
 ghost use Rattle.std.specs.List.{before_first};
 ghost use Rattle.std.specs.Option.{option_copied};
 ghost use Rattle.grep_args.specs.declared.options.ValuedOption.{ValuedOption};
 ghost use Rattle.grep_args.specs.declared.plan.GrepPlan.{GrepPlan};
-ghost use Rattle.grep_args.specs.Words.{Opted, is_equals, joined_value, long, long_option, option_in, options, word_of, Refuses};
+ghost use Rattle.grep_args.specs.Words.{Opted, is_equals, joined_value, long, long_option, option_in, options};
+ghost use Rattle.grep_args.specs.Words.{word_of, Refuses};
 ghost use Rattle.grep_args.specs.Steps.{word_seen, followed_by};
 
 use crate::effects::{show_group, take_group, take_plain, take_value};

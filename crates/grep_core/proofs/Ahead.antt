@@ -1,5 +1,7 @@
--- Rows that are taken at once: the scan stands behind them as if each had been taken, and a write of them that was refused ends it.
-use Rattle.std.proofs.Common.{◌≡◌, ◌≢◌, ℕ, ◌+◌, ◌-◌, ◌^◌, ◌<◌, ◌≤◌, List, [], ◌∷◌, ◌++◌, length, Option, None, Some, Err, refl, sym, ap, subst, ◌∙◌, arith, append_assoc, append-nil}
+-- Rows that are taken at once: the scan stands behind them as if each had been taken, and a write of them that was
+-- refused ends it.
+use Rattle.std.proofs.Common.{◌≡◌, ◌≢◌, ℕ, ◌+◌, ◌-◌, ◌^◌, ◌<◌, ◌≤◌, List, [], ◌∷◌, ◌++◌, length, Option, None, Some}
+use Rattle.std.proofs.Common.{Err, refl, sym, ap, subst, ◌∙◌, arith, append_assoc, append-nil}
 use Rattle.std.specs.Prelude.{flat_map}
 use Rattle.std.specs.Io.KnownBytes.{Appends}
 use Rattle.std.proofs.lemmas.List.{append_cancel_left}
@@ -44,9 +46,11 @@ told : Told
 told = record { left = None; stop = None; faults = 0 }
 
 module _ (work : Work) (most : Option ℕ) (now : Told) (longest : ℕ) (g : Feed) (new : Progress) where
-  live-rows : (rows : List Row) (within : ℕ) (f : Feed) → GivesAll now within longest f g rows → f.phase ≢ Closed → g.phase ≢ Closed
+  live-rows : (rows : List Row) (within : ℕ) (f : Feed) → GivesAll now within longest f g rows → f.phase ≢ Closed
+      → g.phase ≢ Closed
   live-rows [] within f all live = subst (λ (x : Feed). x.phase ≢ Closed) (sym all) live
-  live-rows (row ∷ rows) within f all live = live-rows rows (within - (length row.bytes + length row.newline)) all.2.0 all.2.2 (live-gives f all.2.0 now now row all.2.1)
+  live-rows (row ∷ rows) within f all live = live-rows rows (within - (length row.bytes + length row.newline)) all.2.0
+      all.2.2 (live-gives f all.2.0 now now row all.2.1)
 
   max-rows : (rows : List Row) (within : ℕ) (f : Feed) → GivesAll now within longest f g rows → g.max ≡ f.max
   max-rows [] within f all = ap (λ (x : Feed). x.max) all
@@ -62,21 +66,27 @@ module _ (work : Work) (most : Option ℕ) (now : Told) (longest : ℕ) (g : Fee
       let rest = offset-rows rows (within - (length row.bytes + length row.newline)) all.2.0 all.2.2 in
       omega (arith, first, rest)
 
-  limit-rows : (rows : List Row) (old : Progress) → TakesRows work most old new rows → new.course.earlier.limit ≡ old.course.earlier.limit
+  limit-rows : (rows : List Row) (old : Progress) → TakesRows work most old new rows
+      → new.course.earlier.limit ≡ old.course.earlier.limit
   limit-rows [] old takes = ap (λ (p : Progress). p.course.earlier.limit) takes
   limit-rows (row ∷ rows) old takes = limit-rows rows takes.0 takes.2 ∙ takes.1.limit
 
-  longest-rows : (rows : List Row) (old : Progress) → TakesRows work most old new rows → new.course.earlier.longest ≡ old.course.earlier.longest
+  longest-rows : (rows : List Row) (old : Progress) → TakesRows work most old new rows
+      → new.course.earlier.longest ≡ old.course.earlier.longest
   longest-rows [] old takes = ap (λ (p : Progress). p.course.earlier.longest) takes
   longest-rows (row ∷ rows) old takes = longest-rows rows takes.0 takes.2 ∙ takes.1.longest
 
-  keeps-rows : work.plan.after_context < 2 ^ 32 → (rows : List Row) (within : ℕ) (f : Feed) (old : Progress) → GivesAll now within longest f g rows → TakesRows work most old new rows
+  keeps-rows : work.plan.after_context < 2 ^ 32 → (rows : List Row) (within : ℕ) (f : Feed) (old : Progress)
+      → GivesAll now within longest f g rows → TakesRows work most old new rows
       → Keeps f old.course old.state → Keeps g new.course new.state
-  keeps-rows few [] within f old all takes keeps = subst (λ (x : Feed). Keeps x new.course new.state) (sym all) (subst (λ (p : Progress). Keeps f p.course p.state) (sym takes) keeps)
+  keeps-rows few [] within f old all takes keeps = subst (λ (x : Feed). Keeps x new.course new.state) (sym all)
+      (subst (λ (p : Progress). Keeps f p.course p.state) (sym takes) keeps)
   keeps-rows few (row ∷ rows) within f old all takes keeps =
       let mid = takes.0 in
       keeps-rows few rows (within - (length row.bytes + length row.newline)) all.2.0 mid all.2.2 takes.2
-      (keeps-more work most f all.2.0 now now row (tried_row work.plan work.patterns row) old.course old.state mid.course mid.state old.printed.out mid.printed.out old.printed.err mid.printed.err _ few refl keeps all.2.1 takes.1)
+      (keeps-more work most f all.2.0 now now row (tried_row work.plan work.patterns row) old.course old.state
+      mid.course mid.state old.printed.out mid.printed.out old.printed.err mid.printed.err _ few refl keeps
+      all.2.1 takes.1)
 
   module _ (treated : Treatment) (s0 : State) (before : Told) (out0 err0 : Kept) where
     -- it stands so behind these rows
@@ -84,19 +94,29 @@ module _ (work : Work) (most : Option ℕ) (now : Told) (longest : ℕ) (g : Fee
       standing : Standing work most treated s0 before now f p.course p.state out0 p.printed.out err0 p.printed.err
       is : standing.given ≡ given
 
-    behind-rows : (rows : List Row) (within : ℕ) (f : Feed) (old : Progress) (given : List Row) → GivesAll now within longest f g rows → TakesRows work most old new rows → Behind f old given → Behind g new (given ++ rows)
+    behind-rows : (rows : List Row) (within : ℕ) (f : Feed) (old : Progress) (given : List Row)
+        → GivesAll now within longest f g rows → TakesRows work most old new rows → Behind f old given
+        → Behind g new (given ++ rows)
     behind-rows [] within f old given all takes behind =
-        subst (Behind g new) (sym (append-nil given)) (subst (λ (x : Feed). Behind x new given) (sym all) (subst (λ (p : Progress). Behind f p given) (sym takes) behind))
+        subst (Behind g new) (sym (append-nil given))
+        (subst (λ (x : Feed). Behind x new given) (sym all)
+        (subst (λ (p : Progress). Behind f p given) (sym takes) behind))
     behind-rows (row ∷ rows) within f old given all takes behind =
         let mid = takes.0 in
         subst (Behind g new) (append_assoc given (row ∷ []) rows)
-        (behind-rows rows (within - (length row.bytes + length row.newline)) all.2.0 mid (given ++ row ∷ []) all.2.2 takes.2
+        (behind-rows rows (within - (length row.bytes + length row.newline)) all.2.0 mid (given ++ row ∷ []) all.2.2
+        takes.2
         (record {
-          standing = standing-line work most treated s0 before now now f all.2.0 row old.course old.state mid.course mid.state out0 old.printed.out mid.printed.out err0 old.printed.err mid.printed.err behind.standing all.2.1 takes.1;
-          is = line-given work most treated s0 before now now f all.2.0 row old.course old.state mid.course mid.state out0 old.printed.out mid.printed.out err0 old.printed.err mid.printed.err behind.standing all.2.1 takes.1 ∙ ap (λ l. l ++ row ∷ []) behind.is;
+          standing = standing-line work most treated s0 before now now f all.2.0 row old.course old.state mid.course
+              mid.state out0 old.printed.out mid.printed.out err0 old.printed.err mid.printed.err behind.standing
+              all.2.1 takes.1;
+          is = line-given work most treated s0 before now now f all.2.0 row old.course old.state mid.course mid.state
+              out0 old.printed.out mid.printed.out err0 old.printed.err mid.printed.err behind.standing all.2.1
+              takes.1 ∙ ap (λ l. l ++ row ∷ []) behind.is;
         }))
 
-module _ (work : Work) (most : Option ℕ) (f g : Feed) (old new : Progress) (ahead : TakesAhead work most f g old new) where
+module _ (work : Work) (most : Option ℕ) (f g : Feed) (old new : Progress)
+    (ahead : TakesAhead work most f g old new) where
   pub ahead-live : f.phase ≢ Closed → g.phase ≢ Closed
   ahead-live live = live-rows work most told ahead.longest g new ahead.rows ahead.within f (ahead.gives told) live
 
@@ -113,30 +133,38 @@ module _ (work : Work) (most : Option ℕ) (f g : Feed) (old new : Progress) (ah
   ahead-longest = longest-rows work most told ahead.longest g new ahead.rows old ahead.takes
 
   pub ahead-keeps : work.plan.after_context < 2 ^ 32 → Keeps f old.course old.state → Keeps g new.course new.state
-  ahead-keeps few keeps = keeps-rows work most told ahead.longest g new few ahead.rows ahead.within f old (ahead.gives told) ahead.takes keeps
+  ahead-keeps few keeps = keeps-rows work most told ahead.longest g new few ahead.rows ahead.within f old
+      (ahead.gives told) ahead.takes keeps
 
-  pub ahead-standing : (treated : Treatment) (s0 : State) (before now : Told) (out0 err0 : Kept) → Standing work most treated s0 before now f old.course old.state out0 old.printed.out err0 old.printed.err
+  pub ahead-standing : (treated : Treatment) (s0 : State) (before now : Told) (out0 err0 : Kept)
+      → Standing work most treated s0 before now f old.course old.state out0 old.printed.out err0 old.printed.err
       → Standing work most treated s0 before now g new.course new.state out0 new.printed.out err0 new.printed.err
   ahead-standing treated s0 before now out0 err0 standing =
-      (behind-rows work most now ahead.longest g new treated s0 before out0 err0 ahead.rows ahead.within f old standing.given (ahead.gives now) ahead.takes (record { standing = standing; is = refl })).standing
+      (behind-rows work most now ahead.longest g new treated s0 before out0 err0 ahead.rows ahead.within f old
+      standing.given (ahead.gives now) ahead.takes (record { standing = standing; is = refl })).standing
 
 -- Where a write of them was refused.
 
-cut-prefix : (a b c d : Option (List ℕ)) (front all text : List ℕ) → Appends a b front → Appends a c all → Appends b c text → AppendsPrefix b d text → AppendsPrefix a d all
+cut-prefix : (a b c d : Option (List ℕ)) (front all text : List ℕ) → Appends a b front → Appends a c all
+    → Appends b c text → AppendsPrefix b d text → AppendsPrefix a d all
 cut-prefix None b c d front all text one two more part = tt
 cut-prefix (Some x) None c d front all text one two more part = absurd one
 cut-prefix (Some x) (Some y) None d front all text one two more part = absurd two
 cut-prefix (Some x) (Some y) (Some z) d front all text one two more part =
     let same : x ++ all ≡ x ++ (front ++ text) = sym two ∙ more ∙ ap (λ l. l ++ text) one ∙ append_assoc x front text in
-    subst (AppendsPrefix (Some x) d) (sym (append_cancel_left x all (front ++ text) same)) (prefix-more (Some x) (Some y) d front text one part)
+    subst (AppendsPrefix (Some x) d) (sym (append_cancel_left x all (front ++ text) same))
+    (prefix-more (Some x) (Some y) d front text one part)
 
-halts-prefix : (text : List ℕ) (old new : Kept) (stop : Stop) → Halts text old new stop → AppendsPrefix old.held new.held text
+halts-prefix : (text : List ℕ) (old new : Kept) (stop : Stop) → Halts text old new stop
+    → AppendsPrefix old.held new.held text
 halts-prefix text old new SinkFault halts = halts.0
 halts-prefix text old new Memory halts = halts.0
 halts-prefix text old new TooManyErrors halts = absurd halts
 
-module _ (work : Work) (most : Option ℕ) (treated : Treatment) (s0 : State) (before now : Told) (out0 err0 : Kept) (f0 f g : Feed) (job : IsJob work.plan treated work.show most f0) (old new : Progress) (stop : Stop)
-    (standing : Standing work most treated s0 before now f old.course old.state out0 old.printed.out err0 old.printed.err) (halts : HaltsAhead work most f g old new stop) where
+module _ (work : Work) (most : Option ℕ) (treated : Treatment) (s0 : State) (before now : Told) (out0 err0 : Kept)
+    (f0 f g : Feed) (job : IsJob work.plan treated work.show most f0) (old new : Progress) (stop : Stop)
+    (standing : Standing work most treated s0 before now f old.course old.state out0 old.printed.out err0
+    old.printed.err) (halts : HaltsAhead work most f g old new stop) where
   abbrev rows : List Row
   rows = halts.rows
 
@@ -152,8 +180,10 @@ module _ (work : Work) (most : Option ℕ) (treated : Treatment) (s0 : State) (b
   abbrev whole : Progress
   whole = halts.whole
 
-  behind : Behind work most now halts.longest halts.behind whole treated s0 before out0 err0 halts.behind whole (standing.given ++ rows)
-  behind = behind-rows work most now halts.longest halts.behind whole treated s0 before out0 err0 rows halts.within f old standing.given (halts.gives now) halts.takes (record { standing = standing; is = refl })
+  behind : Behind work most now halts.longest halts.behind whole treated s0 before out0 err0 halts.behind whole
+      (standing.given ++ rows)
+  behind = behind-rows work most now halts.longest halts.behind whole treated s0 before out0 err0 rows halts.within f
+      old standing.given (halts.gives now) halts.takes (record { standing = standing; is = refl })
 
   abbrev us : List Tried
   us = tries work.plan work.patterns standing.given
@@ -168,7 +198,8 @@ module _ (work : Work) (most : Option ℕ) (treated : Treatment) (s0 : State) (b
   tries-are = ap (tries work.plan work.patterns) behind.is ∙ tries-more work.plan work.patterns standing.given rows
 
   begins : BeginsWith work.plan treated before now given
-  begins = stood-begins work.plan treated before now halts.behind given behind.standing.kind behind.standing.max behind.standing.stood
+  begins = stood-begins work.plan treated before now halts.behind given behind.standing.kind behind.standing.max
+      behind.standing.stood
 
   -- the input begins with the rows before them
   begins-before : BeginsWith work.plan treated before now standing.given
@@ -193,32 +224,43 @@ module _ (work : Work) (most : Option ℕ) (treated : Treatment) (s0 : State) (b
       let breaks = breaks-out front said halts.text out0 out out1 err0 err standing.taken.wrote stop halts.halts in
       let wrote = behind.standing.taken.wrote in
       record {
-        out = cut-prefix out0.held out.held whole.printed.out.held out1.held front a halts.text standing.taken.wrote.out wrote.out halts.wrote.all (halts-prefix halts.text out out1 stop halts.halts);
-        err = subst (λ (k : Kept). AppendsPrefix err0.held k.held b) halts.unsaid (prefix-of err0.held whole.printed.err.held b wrote.err);
+        out = cut-prefix out0.held out.held whole.printed.out.held out1.held front a halts.text
+            standing.taken.wrote.out wrote.out halts.wrote.all (halts-prefix halts.text out out1 stop halts.halts);
+        err = subst (λ (k : Kept). AppendsPrefix err0.held k.held b) halts.unsaid
+            (prefix-of err0.held whole.printed.err.held b wrote.err);
         cause = breaks.cause;
         steady = breaks.steady;
       }
 
-  cut-scans : (all : Scan) (stop : Stop) → Halts halts.text out out1 stop → Breaks (shown_out work.plan work.name work.show s0.has_shown all) (flat_map (error_message work.name) all.tried) (printed out0 err0) (printed out1 err) (stop ≡ SinkFault)
-      → StopsIn work treated s0 all old.course.selected old.state → ScansTo work treated s0 all old.course.selected old.state (printed out0 err0) (printed out1 err) (Err stop)
+  cut-scans : (all : Scan) (stop : Stop) → Halts halts.text out out1 stop
+      → Breaks (shown_out work.plan work.name work.show s0.has_shown all)
+      (flat_map (error_message work.name) all.tried) (printed out0 err0) (printed out1 err) (stop ≡ SinkFault)
+      → StopsIn work treated s0 all old.course.selected old.state
+      → ScansTo work treated s0 all old.course.selected old.state (printed out0 err0) (printed out1 err) (Err stop)
   cut-scans all SinkFault h breaks stops = (breaks, stops)
   cut-scans all Memory h breaks stops = (breaks, stops)
   cut-scans all TooManyErrors h breaks stops = absurd h
 
-  cut-refused : (stop : Stop) → Halts halts.text out out1 stop → WhereRefused {T = Ended} (Err stop) (StopsSoon work treated s0 (lines work.plan begins.heard) before now out0 out1)
+  cut-refused : (stop : Stop) → Halts halts.text out out1 stop
+      → WhereRefused {T = Ended} (Err stop) (StopsSoon work treated s0 (lines work.plan begins.heard) before now out0
+      out1)
   unfolding begins begins-before
-  cut-refused SinkFault h = soon-part work most treated s0 before now f old.course old.state out0 out out1 err0 err standing f0 job halts.text h.0 begins-before
+  cut-refused SinkFault h = soon-part work most treated s0 before now f old.course old.state out0 out out1 err0 err
+      standing f0 job halts.text h.0 begins-before
   cut-refused Memory h = tt
   cut-refused TooManyErrors h = tt
 
-  cut-rest : (stop : Stop) → let x : Scan = scan_of work treated s0 (lines work.plan begins.heard) in LeavesRest {T = Ended} x.ended x.within before now (Err stop)
+  cut-rest : (stop : Stop) → let x : Scan = scan_of work treated s0 (lines work.plan begins.heard) in
+      LeavesRest {T = Ended} x.ended x.within before now (Err stop)
   unfolding begins begins-before
-  cut-rest SinkFault = rest-part work most treated s0 before now f old.course old.state out0 out out1 err0 err standing f0 job begins-before
+  cut-rest SinkFault = rest-part work most treated s0 before now f old.course old.state out0 out out1 err0 err
+      standing f0 job begins-before
   cut-rest Memory = tt
   cut-rest TooManyErrors = tt
 
   abbrev Input : State → Kept → ℕ → Type 0
-  Input s said selected = ScansInput work treated (between.standing before s0 (printed out0 err0)) (between.standing now s (printed out1 said)) selected (Err stop)
+  Input s said selected = ScansInput work treated (between.standing before s0 (printed out0 err0))
+      (between.standing now s (printed out1 said)) selected (Err stop)
 
   -- a part of the scan was written
   pub scans-cut : Input new.state new.printed.err new.course.selected
@@ -226,17 +268,25 @@ module _ (work : Work) (most : Option ℕ) (treated : Treatment) (s0 : State) (b
       let finish = (lines work.plan begins.heard).finish in
       let vs = tries work.plan work.patterns begins.more in
       let is = begins-scan work most treated s0 f0 job before now given begins in
-      let goes = goes-of work most treated s0 f0 job before now halts.behind whole.course whole.state out0 whole.printed.out err0 whole.printed.err behind.standing in
-      let ext = extends work.plan work.name work.show s0.has_shown (left work most treated s0) most finish vs ts (course_of whole.course) goes (begins-tried work most treated s0 f0 job before now given begins) in
+      let goes = goes-of work most treated s0 f0 job before now halts.behind whole.course whole.state out0
+      whole.printed.out err0 whole.printed.err behind.standing in
+      let ext = extends work.plan work.name work.show s0.has_shown (left work most treated s0) most finish vs ts
+      (course_of whole.course) goes (begins-tried work most treated s0 f0 job before now given begins) in
       let all = full_of work most treated s0 finish (ts ++ vs) in
-      let tried = ext.tried_is ∙ ap (λ l. l ++ ext.rest) tries-are ∙ append_assoc us (tries work.plan work.patterns rows) ext.rest in
-      subst (λ (s : State). Input s new.printed.err new.course.selected) (sym halts.state) (subst (λ (k : Kept). Input old.state k new.course.selected) (sym halts.err) (subst (λ n. Input old.state err n) (sym halts.selected) (record {
+      let tried = ext.tried_is ∙ ap (λ l. l ++ ext.rest) tries-are
+      ∙ append_assoc us (tries work.plan work.patterns rows) ext.rest in
+      subst (λ (s : State). Input s new.printed.err new.course.selected) (sym halts.state)
+      (subst (λ (k : Kept). Input old.state k new.course.selected) (sym halts.err)
+      (subst (λ n. Input old.state err n) (sym halts.selected) (record {
         heard = begins.heard;
         hears = begins.hears;
         treats = begins.treats;
-        scans = subst (λ x. ScansTo work treated s0 x old.course.selected old.state (printed out0 err0) (printed out1 err) (Err stop)) (sym is)
-            (cut-scans all stop halts.halts (breaks-ext work.plan work.name work.show s0.has_shown all a ts out0 out1 err0 err stop ext cut-breaks)
-            (stops-in work treated s0 (tries work.plan work.patterns rows ++ ext.rest) old.course.selected refl tried standing.taken));
+        scans = subst (λ x. ScansTo work treated s0 x old.course.selected old.state (printed out0 err0)
+            (printed out1 err) (Err stop)) (sym is)
+            (cut-scans all stop halts.halts (breaks-ext work.plan work.name work.show s0.has_shown all a ts out0 out1
+            err0 err stop ext cut-breaks)
+            (stops-in work treated s0 (tries work.plan work.patterns rows ++ ext.rest) old.course.selected refl tried
+            standing.taken));
         rest = cut-rest stop;
         refused = cut-refused stop halts.halts;
       })))

@@ -1,5 +1,6 @@
 -- The rows after the last line that is selected, shown as its context.
-use Rattle.std.proofs.Common.{◌≡◌, ◌≢◌, ℕ, ◌+◌, ◌<◌, ◌≤◌, false, List, [], ◌∷◌, ◌++◌, length, Ok, Err, refl, sym, ap, subst, ◌∙◌, inl, inr, arith, append_assoc, append-nil, length-append}
+use Rattle.std.proofs.Common.{◌≡◌, ◌≢◌, ℕ, ◌+◌, ◌<◌, ◌≤◌, false, List, [], ◌∷◌, ◌++◌, length, Ok, Err, refl, sym, ap}
+use Rattle.std.proofs.Common.{subst, ◌∙◌, inl, inr, arith, append_assoc, append-nil, length-append}
 use Rattle.std.specs.Prelude.{flat_map}
 use Rattle.std.proofs.lemmas.List.Concat.{flat_map-append}
 use Rattle.pcre_io.specs.Told.{Told, Kept}
@@ -38,8 +39,10 @@ module _ (work : Work) (treated : Treatment) (before : Told) (given : List Row) 
   abbrev texts : List Row → List ℕ
   texts rows = flat_map (line_as work.plan work.name false) rows
 
-  texts-more : (rows : List Row) (row : Row) → texts (rows ++ row ∷ []) ≡ texts rows ++ line_as work.plan work.name false row
-  texts-more rows row = flat_map-append (line_as work.plan work.name false) rows (row ∷ []) ∙ ap (λ l. texts rows ++ l) (append-nil (line_as work.plan work.name false row))
+  texts-more : (rows : List Row) (row : Row) → texts (rows ++ row ∷ []) ≡ texts rows ++ line_as work.plan work.name
+      false row
+  texts-more rows row = flat_map-append (line_as work.plan work.name false) rows (row ∷ [])
+      ∙ ap (λ l. texts rows ++ l) (append-nil (line_as work.plan work.name false row))
 
   -- so many rows were shown
   pub record Following (now : Told) (f : Feed) (out0 out : Kept) (n : ℕ) : Type 0 where
@@ -52,7 +55,9 @@ module _ (work : Work) (treated : Treatment) (before : Told) (given : List Row) 
     pub long : length rows ≡ n
     pub wrote : WritesAll (texts rows) out0 out
 
-  pub following-none : (now : Told) (f : Feed) (out : Kept) → Stood work.plan treated before now f given → f.kind ≡ line_end work.plan → f.max ≡ work.plan.max_buffer_size → length f.held ≤ 65536 → f.offset ≡ bytes_in given → Following now f out out 0
+  pub following-none : (now : Told) (f : Feed) (out : Kept) → Stood work.plan treated before now f given
+      → f.kind ≡ line_end work.plan → f.max ≡ work.plan.max_buffer_size → length f.held ≤ 65536
+      → f.offset ≡ bytes_in given → Following now f out out 0
   following-none now f out stood kind max near whole = record {
     rows = [];
     stood = subst (λ l. Stood work.plan treated before now f l) (sym (append-nil given)) stood;
@@ -70,63 +75,89 @@ module _ (work : Work) (treated : Treatment) (before : Told) (given : List Row) 
         let long = length-append had.rows (shows.row ∷ []) in
         let had_long = had.long in record {
           rows = had.rows ++ shows.row ∷ [];
-          stood = subst (λ l. Stood work.plan treated before after g l) (append_assoc given had.rows (shows.row ∷ [])) (stood-gives work.plan treated before now after f g (given ++ had.rows) shows.row had.stood shows.gives);
+          stood = subst (λ l. Stood work.plan treated before after g l) (append_assoc given had.rows (shows.row ∷ []))
+              (stood-gives work.plan treated before now after f g (given ++ had.rows) shows.row had.stood
+              shows.gives);
           kind = kind-gives f g now after shows.row shows.gives ∙ had.kind;
           max = max-gives f g now after shows.row shows.gives ∙ had.max;
           near = shows.gives.cuts.near;
-          whole = whole-gives now after f g (given ++ had.rows) shows.row had.whole shows.gives ∙ ap bytes_in (append_assoc given had.rows (shows.row ∷ []));
+          whole = whole-gives now after f g (given ++ had.rows) shows.row had.whole shows.gives
+              ∙ ap bytes_in (append_assoc given had.rows (shows.row ∷ []));
           long = omega arith;
-          wrote = subst (λ l. WritesAll l out0 out1) (sym (texts-more had.rows shows.row)) (writes-more (texts had.rows) (line_as work.plan work.name false shows.row) out0 out out1 had.wrote shows.wrote);
+          wrote = subst (λ l. WritesAll l out0 out1) (sym (texts-more had.rows shows.row))
+              (writes-more (texts had.rows) (line_as work.plan work.name false shows.row) out0 out out1 had.wrote
+              shows.wrote);
         }
 
-    follows-some : (ended : Ended) → n < lines_after work.show work.plan.after_context → EndsSo f g now after ended × (out1 ≡ out) → FollowsSome work (past before treated given) after out0 out1 ended
+    follows-some : (ended : Ended) → n < lines_after work.show work.plan.after_context
+        → EndsSo f g now after ended × (out1 ≡ out) → FollowsSome work (past before treated given) after out0 out1
+        ended
     follows-some ended few ends =
         let long = had.long in record {
           rows = had.rows;
-          ends = ends-so work.plan treated before now after f g (given ++ had.rows) ended had.stood had.kind had.max ends.0;
+          ends = ends-so work.plan treated before now after f g (given ++ had.rows) ended had.stood had.kind had.max
+              ends.0;
           long = omega arith;
           wrote = subst (λ k. WritesAll (texts had.rows) out0 k) (sym ends.1) had.wrote;
         }
 
-    pub follows-ends : (ended : Ended) → n < lines_after work.show work.plan.after_context → EndsSo f g now after ended × (out1 ≡ out) → Follows work (past before treated given) after out0 out1 (Ok ended)
+    pub follows-ends : (ended : Ended) → n < lines_after work.show work.plan.after_context
+        → EndsSo f g now after ended × (out1 ≡ out) → Follows work (past before treated given) after out0 out1
+        (Ok ended)
     follows-ends told.End few ends = follows-some told.End few ends
     follows-ends told.Early few ends = absurd ends.0
     follows-ends told.ReadFault few ends = follows-some told.ReadFault few ends
     follows-ends (told.TooLong line) few ends = follows-some (told.TooLong line) few ends
     follows-ends told.TooMuch few ends = follows-some told.TooMuch few ends
 
-    pub follows-stops : (stop : Stop) → n < lines_after work.show work.plan.after_context → FollowsOne work (fed f now) (fed g after) out out1 (Err stop) → FollowsPart work (past before treated given) after out0 out1 stop
+    pub follows-stops : (stop : Stop) → n < lines_after work.show work.plan.after_context
+        → FollowsOne work (fed f now) (fed g after) out out1 (Err stop)
+        → FollowsPart work (past before treated given) after out0 out1 stop
     follows-stops stop few (inl halts) =
         let rows = had.rows ++ halts.row ∷ [] in
-        let stood : Stood work.plan treated before after g (given ++ rows) = subst (λ l. Stood work.plan treated before after g l) (append_assoc given had.rows (halts.row ∷ [])) (stood-gives work.plan treated before now after f g (given ++ had.rows) halts.row had.stood halts.gives) in
+        let stood : Stood work.plan treated before after g (given ++ rows) =
+        subst (λ l. Stood work.plan treated before after g l) (append_assoc given had.rows (halts.row ∷ []))
+        (stood-gives work.plan treated before now after f g (given ++ had.rows) halts.row had.stood halts.gives)
+        in
         let more = length-append had.rows (halts.row ∷ []) in
         let long = had.long in record {
           rows = rows;
-          begins = stood-begins work.plan treated before after g (given ++ rows) (kind-gives f g now after halts.row halts.gives ∙ had.kind) (max-gives f g now after halts.row halts.gives ∙ had.max) stood;
+          begins = stood-begins work.plan treated before after g (given ++ rows)
+              (kind-gives f g now after halts.row halts.gives ∙ had.kind)
+              (max-gives f g now after halts.row halts.gives ∙ had.max) stood;
           some = omega arith;
           long = omega arith;
-          wrote = subst (λ l. Halts l out0 out1 stop) (sym (texts-more had.rows halts.row)) (halts-more (texts had.rows) (line_as work.plan work.name false halts.row) out0 out out1 stop had.wrote halts.wrote);
+          wrote = subst (λ l. Halts l out0 out1 stop) (sym (texts-more had.rows halts.row))
+              (halts-more (texts had.rows) (line_as work.plan work.name false halts.row) out0 out out1 stop had.wrote
+              halts.wrote);
           soon = λ is. record {
             whole = had.rows;
             next = halts.row ∷ [];
             parts = refl;
             one = omega arith;
-            grew = grew-part (texts had.rows) (line_as work.plan work.name false halts.row) out0.held out.held out1.held had.wrote.all (halts-part (line_as work.plan work.name false halts.row) out out1 stop is halts.wrote);
+            grew = grew-part (texts had.rows) (line_as work.plan work.name false halts.row) out0.held out.held
+                out1.held had.wrote.all (halts-part (line_as work.plan work.name false halts.row) out out1 stop is
+                halts.wrote);
             little = stood-little work.plan treated before after g (given ++ rows) stood halts.gives.cuts.near
-                (whole-gives now after f g (given ++ had.rows) halts.row had.whole halts.gives ∙ ap bytes_in (append_assoc given had.rows (halts.row ∷ [])));
+                (whole-gives now after f g (given ++ had.rows) halts.row had.whole halts.gives
+                ∙ ap bytes_in (append_assoc given had.rows (halts.row ∷ [])));
           };
         }
     follows-stops stop few (inr lacks) =
         let long = had.long in record {
           rows = had.rows;
-          begins = lacks-so work.plan treated before now after f g (given ++ had.rows) had.stood had.kind had.max lacks.1;
+          begins = lacks-so work.plan treated before now after f g (given ++ had.rows) had.stood had.kind had.max
+              lacks.1;
           some = omega arith;
           long = omega arith;
-          wrote = subst (λ s. Halts (texts had.rows) out0 out1 s) (sym lacks.0) (subst (λ k. Halts (texts had.rows) out0 k Memory) (sym lacks.2) (halts-memory (texts had.rows) out0 out had.wrote));
+          wrote = subst (λ s. Halts (texts had.rows) out0 out1 s) (sym lacks.0)
+              (subst (λ k. Halts (texts had.rows) out0 k Memory) (sym lacks.2)
+              (halts-memory (texts had.rows) out0 out had.wrote));
           soon = λ is. let e : Memory ≡ SinkFault = sym lacks.0 ∙ is in absurd (cc);
         }
 
-  pub follows-all : (now : Told) (f : Feed) (out0 out : Kept) (n : ℕ) → Following now f out0 out n → n ≡ lines_after work.show work.plan.after_context → FollowsAll work (past before treated given) now out0 out
+  pub follows-all : (now : Told) (f : Feed) (out0 out : Kept) (n : ℕ) → Following now f out0 out n
+      → n ≡ lines_after work.show work.plan.after_context → FollowsAll work (past before treated given) now out0 out
   follows-all now f out0 out n had is = record {
     rows = had.rows;
     begins = stood-begins work.plan treated before now f (given ++ had.rows) had.kind had.max had.stood;
@@ -145,7 +176,8 @@ module _ (work : Work) (treated : Treatment) (before : Told) (given : List Row) 
       near = had.near;
       whole = had.whole;
       long = had.long;
-      wrote = subst (λ l. WritesAll l out0 out1) (append-nil (texts had.rows)) (writes-more (texts had.rows) [] out0 out out1 had.wrote sent);
+      wrote = subst (λ l. WritesAll l out0 out1) (append-nil (texts had.rows))
+          (writes-more (texts had.rows) [] out0 out out1 had.wrote sent);
     }
 
     -- what was gathered was sent on
@@ -153,20 +185,23 @@ module _ (work : Work) (treated : Treatment) (before : Told) (given : List Row) 
     following-sent g same sent = subst (λ (h : Feed). Following now h out0 out1 n) (sym same) (sent-to sent)
 
     -- it was refused
-    pub follows-unsent : (stop : Stop) → n < lines_after work.show work.plan.after_context → Halts [] out out1 stop → FollowsPart work (past before treated given) now out0 out1 stop
+    pub follows-unsent : (stop : Stop) → n < lines_after work.show work.plan.after_context → Halts [] out out1 stop
+        → FollowsPart work (past before treated given) now out0 out1 stop
     follows-unsent stop few halts =
         let long = had.long in record {
           rows = had.rows;
           begins = stood-begins work.plan treated before now f (given ++ had.rows) had.kind had.max had.stood;
           some = omega arith;
           long = omega arith;
-          wrote = subst (λ l. Halts l out0 out1 stop) (append-nil (texts had.rows)) (halts-more (texts had.rows) [] out0 out out1 stop had.wrote halts);
+          wrote = subst (λ l. Halts l out0 out1 stop) (append-nil (texts had.rows))
+              (halts-more (texts had.rows) [] out0 out out1 stop had.wrote halts);
           soon = λ is. record {
             whole = had.rows;
             next = [];
             parts = sym (append-nil had.rows);
             one = omega arith;
-            grew = grew-part (texts had.rows) [] out0.held out.held out1.held had.wrote.all (halts-part [] out out1 stop is halts);
+            grew = grew-part (texts had.rows) [] out0.held out.held out1.held had.wrote.all
+                (halts-part [] out out1 stop is halts);
             little = stood-little work.plan treated before now f (given ++ had.rows) had.stood had.near had.whole;
           };
         }

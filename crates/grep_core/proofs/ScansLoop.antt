@@ -1,5 +1,6 @@
 -- The loop that takes lines: its start, and the numbers that it keeps.
-use Rattle.std.proofs.Common.{◌≡◌, ℕ, ◌+◌, ◌-◌, ◌^◌, ◌<◌, ◌≤◌, ◌||◌, Bool, true, false, List, [], ◌∷◌, ◌++◌, length, Option, None, Some, refl, sym, ap, subst, ◌∙◌, arith, length-append, length-drop}
+use Rattle.std.proofs.Common.{◌≡◌, ℕ, ◌+◌, ◌-◌, ◌^◌, ◌<◌, ◌≤◌, ◌||◌, Bool, true, false, List, [], ◌∷◌, ◌++◌, length}
+use Rattle.std.proofs.Common.{Option, None, Some, refl, sym, ap, subst, ◌∙◌, arith, length-append, length-drop}
 use Rattle.std.specs.Prelude.{nat_le}
 use Rattle.std.proofs.lemmas.Bool.{cond_both}
 use Rattle.pcre_io.specs.Told.{Told, Kept}
@@ -28,7 +29,8 @@ use Rattle.tool_io.proofs.Printing.{wrote-none}
 use Rattle.grep_core.specs.Underway.{Keeps, Standing}
 use Rattle.tool_io.specs.Printed.{printed}
 
-shown-none : (plan : GrepPlan) (name : List ℕ) (shows : Show) (hs : Bool) → shown_out plan name shows hs (scan_so_far []) ≡ []
+shown-none : (plan : GrepPlan) (name : List ℕ) (shows : Show) (hs : Bool)
+    → shown_out plan name shows hs (scan_so_far []) ≡ []
 shown-none plan name show.Lines hs = refl
 shown-none plan name show.Parts hs = refl
 shown-none plan name show.Nothing hs = refl
@@ -47,13 +49,16 @@ below-none None some = tt
 below-none (Some m) some = omega arith
 
 -- before the first line
-pub standing-begun : (work : Work) (most : Option ℕ) (treated : Treatment) (s0 : State) (before now : Told) (f0 : Feed) (c : Course) (out err : Kept)
-    → IsJob work.plan treated work.show most f0 → Stood work.plan treated before now f0 [] → c.selected ≡ 0 → c.context_to ≡ 0 → c.earlier.rows ≡ [] → s0.errors ≤ 20
+pub standing-begun : (work : Work) (most : Option ℕ) (treated : Treatment) (s0 : State) (before now : Told)
+    (f0 : Feed) (c : Course) (out err : Kept)
+    → IsJob work.plan treated work.show most f0 → Stood work.plan treated before now f0 [] → c.selected ≡ 0
+    → c.context_to ≡ 0 → c.earlier.rows ≡ [] → s0.errors ≤ 20
     → Standing work most treated s0 before now f0 c s0 out out err err
 standing-begun work most treated s0 before now f0 c out err job stood selected context earlier errors =
     let is : course_of c ≡ begun = λ i. record { selected = selected i; context_to = context i; earlier = earlier i } in
     let none : s0.errors + 0 ≡ s0.errors = omega arith in
-    let shown : (s0.has_shown || shows_group work.plan work.name work.show (scan_so_far [])) ≡ s0.has_shown = ap (λ b. s0.has_shown || b) (group-none work.plan work.name work.show) ∙ or_none s0.has_shown in record {
+    let shown : (s0.has_shown || shows_group work.plan work.name work.show (scan_so_far [])) ≡ s0.has_shown =
+    ap (λ b. s0.has_shown || b) (group-none work.plan work.name work.show) ∙ or_none s0.has_shown in record {
       given = [];
       stood = stood;
       kind = job.kind;
@@ -63,8 +68,10 @@ standing-begun work most treated s0 before now f0 c out err job stood selected c
       few = omega arith;
       below = below-none most job.some;
       taken = record {
-        reached = subst (λ (d : course.Course). Reached work.plan work.show [] d) (sym is) (reached-begun work.plan work.show);
-        wrote = subst (λ l. Wrote l [] (printed out err) (printed out err)) (sym (shown-none work.plan work.name work.show s0.has_shown)) (wrote-none (printed out err));
+        reached = subst (λ (d : course.Course). Reached work.plan work.show [] d) (sym is)
+            (reached-begun work.plan work.show);
+        wrote = subst (λ l. Wrote l [] (printed out err) (printed out err))
+            (sym (shown-none work.plan work.name work.show s0.has_shown)) (wrote-none (printed out err));
         state = λ i. record s0 { errors = sym none i; has_shown = sym shown i };
       };
     }
@@ -74,8 +81,11 @@ standing-begun work most treated s0 before now f0 c out err job stood selected c
 kept-few : (n : ℕ) (rows : List Row) → length (keep_last n rows) ≤ length rows
 kept-few n rows = let long = length-drop (length rows - n) rows in omega arith
 
-after-earlier : (plan : GrepPlan) (shows : Show) (c : course.Course) (t : Tried) → length (course_after plan shows c t).earlier ≤ length c.earlier + 1
-after-earlier plan shows c t = cond_both (is_selected plan t) (course_after_selected plan shows c t.row) (course_after_passed plan shows c t.row) (λ (d : course.Course). length d.earlier ≤ length c.earlier + 1) (λ e. selected shows) (λ e. passed shows)
+after-earlier : (plan : GrepPlan) (shows : Show) (c : course.Course) (t : Tried)
+    → length (course_after plan shows c t).earlier ≤ length c.earlier + 1
+after-earlier plan shows c t = cond_both (is_selected plan t) (course_after_selected plan shows c t.row)
+    (course_after_passed plan shows c t.row) (λ (d : course.Course). length d.earlier ≤ length c.earlier + 1)
+    (λ e. selected shows) (λ e. passed shows)
   where
     selected : (s : Show) → length (course_after_selected plan s c t.row).earlier ≤ length c.earlier + 1
     selected show.Lines = omega arith
@@ -86,12 +96,17 @@ after-earlier plan shows c t = cond_both (is_selected plan t) (course_after_sele
     passed show.Lines =
         let few = kept-few plan.before_context (c.earlier ++ t.row ∷ []) in
         let long = length-append c.earlier (t.row ∷ []) in
-        cond_both (nat_le t.row.number c.context_to) c (record c { earlier = keep_last plan.before_context (c.earlier ++ t.row ∷ []) }) (λ (d : course.Course). length d.earlier ≤ length c.earlier + 1) (λ e. omega arith) (λ e. omega arith)
+        cond_both (nat_le t.row.number c.context_to) c
+        (record c { earlier = keep_last plan.before_context (c.earlier ++ t.row ∷ []) })
+        (λ (d : course.Course). length d.earlier ≤ length c.earlier + 1) (λ e. omega arith) (λ e. omega arith)
     passed show.Parts = omega arith
     passed show.Nothing = omega arith
 
-after-context : (plan : GrepPlan) (shows : Show) (c : course.Course) (t : Tried) (n : ℕ) → c.context_to ≤ n → t.row.number + plan.after_context ≤ n → (course_after plan shows c t).context_to ≤ n
-after-context plan shows c t n old new = cond_both (is_selected plan t) (course_after_selected plan shows c t.row) (course_after_passed plan shows c t.row) (λ (d : course.Course). d.context_to ≤ n) (λ e. selected shows) (λ e. passed shows)
+after-context : (plan : GrepPlan) (shows : Show) (c : course.Course) (t : Tried) (n : ℕ) → c.context_to ≤ n
+    → t.row.number + plan.after_context ≤ n → (course_after plan shows c t).context_to ≤ n
+after-context plan shows c t n old new = cond_both (is_selected plan t) (course_after_selected plan shows c t.row)
+    (course_after_passed plan shows c t.row) (λ (d : course.Course). d.context_to ≤ n) (λ e. selected shows)
+    (λ e. passed shows)
   where
     selected : (s : Show) → (course_after_selected plan s c t.row).context_to ≤ n
     selected show.Lines = new
@@ -99,12 +114,17 @@ after-context plan shows c t n old new = cond_both (is_selected plan t) (course_
     selected show.Nothing = old
 
     passed : (s : Show) → (course_after_passed plan s c t.row).context_to ≤ n
-    passed show.Lines = cond_both (nat_le t.row.number c.context_to) c (record c { earlier = keep_last plan.before_context (c.earlier ++ t.row ∷ []) }) (λ (d : course.Course). d.context_to ≤ n) (λ e. old) (λ e. old)
+    passed show.Lines = cond_both (nat_le t.row.number c.context_to) c
+        (record c { earlier = keep_last plan.before_context (c.earlier ++ t.row ∷ []) })
+        (λ (d : course.Course). d.context_to ≤ n) (λ e. old) (λ e. old)
     passed show.Parts = old
     passed show.Nothing = old
 
-after-count : (plan : GrepPlan) (shows : Show) (c : course.Course) (t : Tried) → (course_after plan shows c t).selected ≤ c.selected + 1
-after-count plan shows c t = cond_both (is_selected plan t) (course_after_selected plan shows c t.row) (course_after_passed plan shows c t.row) (λ (d : course.Course). d.selected ≤ c.selected + 1) (λ e. selected shows) (λ e. passed shows)
+after-count : (plan : GrepPlan) (shows : Show) (c : course.Course) (t : Tried)
+    → (course_after plan shows c t).selected ≤ c.selected + 1
+after-count plan shows c t = cond_both (is_selected plan t) (course_after_selected plan shows c t.row)
+    (course_after_passed plan shows c t.row) (λ (d : course.Course). d.selected ≤ c.selected + 1)
+    (λ e. selected shows) (λ e. passed shows)
   where
     selected : (s : Show) → (course_after_selected plan s c t.row).selected ≤ c.selected + 1
     selected show.Lines = omega arith
@@ -112,7 +132,9 @@ after-count plan shows c t = cond_both (is_selected plan t) (course_after_select
     selected show.Nothing = omega arith
 
     passed : (s : Show) → (course_after_passed plan s c t.row).selected ≤ c.selected + 1
-    passed show.Lines = cond_both (nat_le t.row.number c.context_to) c (record c { earlier = keep_last plan.before_context (c.earlier ++ t.row ∷ []) }) (λ (d : course.Course). d.selected ≤ c.selected + 1) (λ e. omega arith) (λ e. omega arith)
+    passed show.Lines = cond_both (nat_le t.row.number c.context_to) c
+        (record c { earlier = keep_last plan.before_context (c.earlier ++ t.row ∷ []) })
+        (λ (d : course.Course). d.selected ≤ c.selected + 1) (λ e. omega arith) (λ e. omega arith)
     passed show.Parts = omega arith
     passed show.Nothing = omega arith
 
@@ -143,8 +165,10 @@ gave f g now after row gives =
       max = cuts.max ∙ moves.max;
     }
 
-pub keeps-more : (work : Work) (most : Option ℕ) (f g : Feed) (now after : Told) (row : Row) (t : Tried) (c : Course) (s : State) (c1 : Course) (s1 : State) (out out1 err err1 : Kept) (next : Next)
-    → work.plan.after_context < 2 ^ 32 → t.row ≡ row → Keeps f c s → Gives f g now after row → Takes work most t (progress c s (printed out err)) (progress c1 s1 (printed out1 err1)) next → Keeps g c1 s1
+pub keeps-more : (work : Work) (most : Option ℕ) (f g : Feed) (now after : Told) (row : Row) (t : Tried) (c : Course)
+    (s : State) (c1 : Course) (s1 : State) (out out1 err err1 : Kept) (next : Next)
+    → work.plan.after_context < 2 ^ 32 → t.row ≡ row → Keeps f c s → Gives f g now after row
+    → Takes work most t (progress c s (printed out err)) (progress c1 s1 (printed out1 err1)) next → Keeps g c1 s1
 keeps-more work most f g now after row t c s c1 s1 out out1 err err1 next few is keeps gives takes =
     let grew = gave f g now after row gives in
     let number = grew.number in
@@ -162,9 +186,12 @@ keeps-more work most f g now after row t c s c1 s1 out out1 err err1 next few is
     let earlier = after-earlier work.plan work.show (course_of c) t in
     let count = after-count work.plan work.show (course_of c) t in
     let context = after-context work.plan work.show (course_of c) t (2 ^ 62) had_context (omega arith) in
-    let back_is : length c1.earlier.rows ≡ length (course_after work.plan work.show (course_of c) t).earlier = ap (λ (d : course.Course). length d.earlier) takes.stands in
-    let context_is : c1.context_to ≡ (course_after work.plan work.show (course_of c) t).context_to = ap (λ (d : course.Course). d.context_to) takes.stands in
-    let count_is : c1.selected ≡ (course_after work.plan work.show (course_of c) t).selected = ap (λ (d : course.Course). d.selected) takes.stands in
+    let back_is : length c1.earlier.rows ≡ length (course_after work.plan work.show (course_of c) t).earlier =
+    ap (λ (d : course.Course). length d.earlier) takes.stands in
+    let context_is : c1.context_to ≡ (course_after work.plan work.show (course_of c) t).context_to =
+    ap (λ (d : course.Course). d.context_to) takes.stands in
+    let count_is : c1.selected ≡ (course_after work.plan work.show (course_of c) t).selected =
+    ap (λ (d : course.Course). d.selected) takes.stands in
     record {
       max = omega arith;
       numbered = omega arith;

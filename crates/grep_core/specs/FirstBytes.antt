@@ -1,4 +1,5 @@
--- When the first bytes of an input are looked at: only where they can change what is written of it (pcre2grep, "OPTIONS",
+-- When the first bytes of an input are looked at: only where they can change what is written of it (pcre2grep,
+-- "OPTIONS",
 -- --binary-files): plan → whether they are looked at → how the lines are scanned.
 use Rattle.std.specs.Prelude.{Bool, true, false, ◌&&◌, not, take, nat_eq}
 use Rattle.std.specs.List.{list_any}

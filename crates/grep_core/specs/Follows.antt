@@ -1,5 +1,6 @@
 -- What follows the last line that is selected: the rows after it → its context.
-use Rattle.std.specs.Prelude.{◌≡◌, ℕ, ◌≤◌, ◌<◌, false, List, ◌++◌, length, flat_map, Option, Some, None, Result, Ok, Err, ◌⊎◌}
+use Rattle.std.specs.Prelude.{◌≡◌, ℕ, ◌≤◌, ◌<◌, false, List, ◌++◌, length, flat_map, Option, Some, None, Result, Ok}
+use Rattle.std.specs.Prelude.{Err, ◌⊎◌}
 use Rattle.pcre_io.specs.Told.{Told, Kept}
 use Rattle.line_feed.specs.Rows.{Row}
 use Rattle.grep_output.specs.LittlePast.{TakesLittlePast}

@@ -1,6 +1,7 @@
--- What searching one input does: what the source told → the input that it stands for → how it is treated → its scan, its summary
--- and its messages → what was written, told and left.
-use Rattle.std.specs.Prelude.{◌≡◌, ◌≢◌, ℕ, ◌≤◌, Bool, true, false, List, [], length, ◌++◌, flat_map, Result, Ok, Err, ◌⊎◌, ⊤}
+-- What searching one input does: what the source told → the input that it stands for → how it is treated → its scan,
+-- its summary and its messages → what was written, told and left.
+use Rattle.std.specs.Prelude.{◌≡◌, ◌≢◌, ℕ, ◌≤◌, Bool, true, false, List, [], length, ◌++◌, flat_map, Result, Ok, Err}
+use Rattle.std.specs.Prelude.{◌⊎◌, ⊤}
 use Rattle.pcre_io.specs.Told.{Told}
 use Rattle.pcre_io.specs.declared.traits.IoError.{IoError}
 use Rattle.line_feed.specs.Rows.{Input}

@@ -1,6 +1,7 @@
--- What the scan of an input does with one line: how it stands, and the line that the feed gives → what is written of it, and how
--- it stands then.
-use Rattle.std.specs.Prelude.{[], ◌≡◌, ℕ, ◌+◌, ◌≤◌, ◌==◌, Bool, true, false, ◌&&◌, ◌||◌, nat_le, if◌then◌else◌, List, Option, Some, None, Result, Ok, Err, ◌⊎◌}
+-- What the scan of an input does with one line: how it stands, and the line that the feed gives → what is written of
+-- it, and how it stands then.
+use Rattle.std.specs.Prelude.{[], ◌≡◌, ℕ, ◌+◌, ◌≤◌, ◌==◌, Bool, true, false, ◌&&◌, ◌||◌, nat_le, if◌then◌else◌, List}
+use Rattle.std.specs.Prelude.{Option, Some, None, Result, Ok, Err, ◌⊎◌}
 use Rattle.pcre_io.specs.Told.{Told, Kept, AppendsPrefix}
 use Rattle.pcre_io.specs.Causes.{Rose}
 use Rattle.line_feed.specs.Rows.{Row}
@@ -22,7 +23,8 @@ use Rattle.grep_match.specs.Matches.{Tried, tried_row, is_selected, has_error}
 use Rattle.grep_output.specs.Messages.{error_message}
 use Rattle.grep_output.specs.declared.state.State.{State}
 use Rattle.grep_output.specs.Course as course
-use Rattle.grep_output.specs.Course.{row_out, selected_out, passed_out, is_lines, course_after, course_after_selected, course_after_passed, state_after_line}
+use Rattle.grep_output.specs.Course.{row_out, selected_out, passed_out, is_lines, course_after}
+use Rattle.grep_output.specs.Course.{course_after_selected, course_after_passed, state_after_line}
 use Rattle.tool_io.specs.Writes.{WritesAll}
 use Rattle.tool_io.specs.Prints.{Wrote, Breaks}
 

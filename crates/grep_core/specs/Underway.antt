@@ -59,7 +59,8 @@ module _ (work : Work) (treated : Treatment) (s0 : State) where
   -- the lines were taken
   pub record Taken (ts : List Tried) (c : Course) (s : State) (out0 out err0 err : Kept) : Type 0 where
     pub reached : Reached work.plan work.show ts (course_of c)
-    pub wrote : Wrote (shown_out work.plan work.name work.show s0.has_shown (scan_so_far ts)) (flat_map (error_message work.name) ts) (printed out0 err0) (printed out err)
+    pub wrote : Wrote (shown_out work.plan work.name work.show s0.has_shown (scan_so_far ts))
+        (flat_map (error_message work.name) ts) (printed out0 err0) (printed out err)
     pub state : s ≡ left_by work treated s0 (scan_so_far ts)
 
 -- How a scan stands after the rows that were given.

@@ -1,6 +1,7 @@
--- What the scan of an input does as a whole: what the source told → the input that it stands for → its scan → what was written
--- of it, and what it leaves.
-use Rattle.std.specs.Prelude.{[], ◌≡◌, ◌≢◌, ℕ, ◌+◌, ◌≤◌, true, false, ◌||◌, nat_eq, List, ◌∷◌, ◌++◌, length, map, filter, flat_map, Option, Some, None, Result, Ok, Err, ◌⊎◌, ⊤}
+-- What the scan of an input does as a whole: what the source told → the input that it stands for → its scan → what was
+-- written of it, and what it leaves.
+use Rattle.std.specs.Prelude.{[], ◌≡◌, ◌≢◌, ℕ, ◌+◌, ◌≤◌, true, false, ◌||◌, nat_eq, List, ◌∷◌, ◌++◌, length, map}
+use Rattle.std.specs.Prelude.{filter, flat_map, Option, Some, None, Result, Ok, Err, ◌⊎◌, ⊤}
 use Rattle.std.specs.List.{list_any}
 use Rattle.pcre_io.specs.Told.{Told, Kept}
 use Rattle.line_feed.specs.Rows.{Row, Rows, Input, Finish, At, End, rows_with}

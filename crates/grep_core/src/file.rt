@@ -167,10 +167,10 @@ fn write_end<O: Sink, E: Sink>(
     Ok(())
 }
 
-/// Writes what pcre2grep writes of an input of this name: its selected lines, or what the plan shows in place of them, to
-/// `out`, and messages about it to `err`. Under `Auto` no name is shown. Needs a plan whose `max_buffer_size` is from 1 to
-/// 1,073,741,824 and whose `max_count`, where given, is at least 1, and a state with at most 20 match errors and a total
-/// below 2^127.
+/// Writes what pcre2grep writes of an input of this name: its selected lines, or what the plan shows in place of them,
+/// to `out`, and messages about it to `err`. Under `Auto` no name is shown. Needs a plan whose `max_buffer_size` is
+/// from 1 to 1,073,741,824 and whose `max_count`, where given, is at least 1, and a state with at most 20 match errors
+/// and a total below 2^127.
 ///
 /// # Errors
 ///

@@ -1,5 +1,6 @@
 //! The scan of an input, line by line.
-ghost use Rattle.std.specs.Prelude.{◌≡◌, ◌≢◌, ℕ, List, ◌<◌, ◌≤◌, ◌+◌, ◌^◌, ◌||◌, ◌&&◌, true, false, [], length, flat_map, if◌then◌else◌, IfOk, IfSome, OnOk, Ok, Err, None, IsTrue};
+ghost use Rattle.std.specs.Prelude.{◌≡◌, ◌≢◌, ℕ, List, ◌<◌, ◌≤◌, ◌+◌, ◌^◌, ◌||◌, ◌&&◌, true, false, [], length};
+ghost use Rattle.std.specs.Prelude.{flat_map, if◌then◌else◌, IfOk, IfSome, OnOk, Ok, Err, None, IsTrue};
 ghost use Rattle.pcre_io.specs.Told.{Told, Kept};
 ghost use Rattle.line_feed.specs.Rows.{Row};
 ghost use Rattle.line_feed.specs.Lines.{row_of};
@@ -860,8 +861,8 @@ pub fn scan<S: Source, O: Sink, E: Sink>(
     requires earlier { course.old.earlier.rows ≡ [] }
     requires limit { course.old.earlier.limit ≡ job.now.plan.now.before_context }
     requires longest { feed.old.max ≤ course.old.earlier.longest }
-    // For each state of the source from which the feed came here without giving a line, and where the job is made for the
-    // input, this is the scan of the input that the source stands for.
+    // For each state of the source from which the feed came here without giving a line, and where the job is made for
+    // the input, this is the scan of the input that the source stands for.
     ensures { (before : Told) (treated : Treatment)
         → IsJob job.now.plan.now treated job.now.show job.now.most feed.old
         → Stood job.now.plan.now treated before (S.tells source.old) feed.old []

@@ -23,7 +23,8 @@ use Rattle.pat_build.specs.Options.{with_setting, with_item}
 use Rattle.pat_build.specs.Classes.{range_or_hyphen, from_character, from_set, class_parts, class_spec}
 use Rattle.pat_build.specs.Groups.{opened, captured, named, groups_of, named_by, places_named, missing}
 use Rattle.pat_build.specs.Callouts.{automatic}
-use Rattle.pat_build.specs.Reading.{quantified, closed, part_then, alternatives_from, sequence, sequence_at, alternatives, whole, started, reading, read_from, read_with, read}
+use Rattle.pat_build.specs.Reading.{quantified, closed, part_then, alternatives_from, sequence, sequence_at}
+use Rattle.pat_build.specs.Reading.{alternatives, whole, started, reading, read_from, read_with, read}
 use Rattle.pat_tree.specs.Nested.{trees_after, trees}
 use Rattle.pat_tree.specs.Sound.{group_numbers}
 use Rattle.pat_lengths.specs.Nodes.{nodes}
@@ -33,8 +34,11 @@ use Rattle.pat_check.specs.Lead.{lead}
 use Rattle.match_items.specs.Items.{places_back, run_places, run_reaches}
 use Rattle.ordered_search.specs.Stream.{◌or_else◌, each, decide, catch, changes}
 use Rattle.ordered_search.specs.Setting.{held, hold, reach, reach_if}
-use Rattle.ordered_search.specs.Tests.{run_one, run_break, run_ref, run_anchor, offers, greedy, reluctant, lazy_run, run_many}
-use Rattle.ordered_search.specs.Parts.{in_order, choices, branches, run_group, one_try, tries, tries_within, run_behind, run_atomic, run_look, asserts, tests, follow, run_callout, backs, run_verb, turn, run_repeat, run_tree, run_call}
+use Rattle.ordered_search.specs.Tests.{run_one, run_break, run_ref, run_anchor, offers, greedy, reluctant, lazy_run}
+use Rattle.ordered_search.specs.Tests.{run_many}
+use Rattle.ordered_search.specs.Parts.{in_order, choices, branches, run_group, one_try, tries, tries_within}
+use Rattle.ordered_search.specs.Parts.{run_behind, run_atomic, run_look, asserts, tests, follow, run_callout, backs}
+use Rattle.ordered_search.specs.Parts.{run_verb, turn, run_repeat, run_tree, run_call}
 use Rattle.ordered_search.specs.Parts as parts
 use Rattle.ordered_search.specs.Run.{level, run}
 use Rattle.ordered_search.specs.PlaceAnswer.{walk}
@@ -47,15 +51,26 @@ use Rattle.grep_main.specs.ToolText.{text_of}
 use Rattle.grep_main.specs.Worked.{WorkedRows}
 
 reading_computes : Unit {0}
-unfolding stands run_end numeral name_end newline_at first_newline line_end comment blank_end blanks_end is_counted with_mode counted everywhere outside octal numbered_escape longer escape named_reference name_escape digits_start begins_number posix_end ignored_end all_ignored_end class_start bracket class_escape in_class set_by unset_by setting_closed setting start_word closed_word limit star_word opened_by named_group angle special group quoted rest plain token_at next with_setting with_item item range_or_hyphen from_character from_set class_parts class_spec opened captured named groups_of named_by places_named missing quantified closed part_then alternatives_from automatic sequence sequence_at alternatives whole started reading read_from read_with read
+unfolding stands run_end numeral name_end newline_at first_newline line_end comment blank_end blanks_end is_counted
+    with_mode counted everywhere outside octal numbered_escape longer escape named_reference name_escape digits_start
+    begins_number posix_end ignored_end all_ignored_end class_start bracket class_escape in_class set_by unset_by
+    setting_closed setting start_word closed_word limit star_word opened_by named_group angle special group quoted
+    rest plain token_at next with_setting with_item item range_or_hyphen from_character from_set class_parts
+    class_spec opened captured named groups_of named_by places_named missing quantified closed part_then
+    alternatives_from automatic sequence sequence_at alternatives whole started reading read_from read_with read
 reading_computes = tt
 
 searching_computes : Unit {0}
-unfolding trees_after trees group_numbers least_of nodes lengths by_calls lead_to behind found_in lead places_back run_places run_reaches ◌or_else◌ each decide catch changes held hold reach reach_if run_one run_break run_ref run_anchor offers greedy reluctant lazy_run run_many in_order choices branches run_group one_try tries tries_within run_behind run_atomic run_look asserts tests follow run_callout parts.named backs run_verb turn run_repeat parts.returns run_tree run_call level run walk from_place
+unfolding trees_after trees group_numbers least_of nodes lengths by_calls lead_to behind found_in lead places_back
+    run_places run_reaches ◌or_else◌ each decide catch changes held hold reach reach_if run_one run_break run_ref
+    run_anchor offers greedy reluctant lazy_run run_many in_order choices branches run_group one_try tries
+    tries_within run_behind run_atomic run_look asserts tests follow run_callout parts.named backs run_verb turn
+    run_repeat parts.returns run_tree run_call level run walk from_place
 searching_computes = tt
 
 computing : Unit {0}
-unfolding reading_computes searching_computes is_utf8 digits rows_within plan_of later matches nth_place input_text reports text_of
+unfolding reading_computes searching_computes is_utf8 digits rows_within plan_of later matches nth_place input_text
+    reports text_of
 computing = tt
 
 pub rows_hold : WorkedRows

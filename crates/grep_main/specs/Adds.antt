@@ -1,5 +1,5 @@
--- What reading files of patterns does: words, and the patterns so far → what the words stand for → the patterns of their lines, or
--- a message.
+-- What reading files of patterns does: words, and the patterns so far → what the words stand for → the patterns of
+-- their lines, or a message.
 use Rattle.std.specs.Prelude.{◌≡◌, ℕ, Bool, true, false, List, [], ◌∷◌, ◌++◌, map, Option, Result, Ok, Err}
 use Rattle.pcre_io.specs.Told.{Told, Kept}
 use Rattle.pcre_io.specs.Files.{Contents}

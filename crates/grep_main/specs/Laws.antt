@@ -1,5 +1,6 @@
 -- What the text of a run says in a plain case.
-use Rattle.std.specs.Prelude.{◌≡◌, ◌≢◌, ℕ, ◌<◌, ◌≤◌, List, ◌++◌, length, take, drop, map, filter, sum_by, All, Option, None, Some, Ok}
+use Rattle.std.specs.Prelude.{◌≡◌, ◌≢◌, ℕ, ◌<◌, ◌≤◌, List, ◌++◌, length, take, drop, map, filter, sum_by, All}
+use Rattle.std.specs.Prelude.{Option, None, Some, Ok}
 use Rattle.pcre_io.specs.Files.{Contents}
 use Rattle.line_feed.specs.Rows.{Input, End, Long}
 use Rattle.grep_args.specs.declared.plan.GrepPlan.{GrepPlan}
@@ -28,8 +29,8 @@ errors_in plan patterns None = 0
 errors_in plan patterns (Some input) =
     length (filter has_error (map (tried_row plan patterns) (lines plan input).rows))
 
--- The words and the patterns are accepted, also those for names, the files of patterns are read, the inputs are there with
--- their ends, their lines are within the maximum, and at most 20 of these have a match error.
+-- The words and the patterns are accepted, also those for names, the files of patterns are read, the inputs are there
+-- with their ends, their lines are within the maximum, and at most 20 of these have a match error.
 pub record IsSound (words : List (List ℕ)) (given : List Asked) : Type 0 where
   pub plan : GrepPlan
   pub accepted : plan_of words ≡ Ok plan

@@ -1,6 +1,7 @@
--- What a run tells of its inputs beside its text: words → plan → patterns → the scan of standard input → how much past an early end
--- was taken of it; and that a file is absent only where a fault was counted.
-use Rattle.std.specs.Prelude.{◌≡◌, ◌≢◌, ℕ, Bool, true, false, List, [], ◌∷◌, ◌++◌, length, take, drop, Option, Some, None, Result, Ok, Err, ⊤}
+-- What a run tells of its inputs beside its text: words → plan → patterns → the scan of standard input → how much past
+-- an early end was taken of it; and that a file is absent only where a fault was counted.
+use Rattle.std.specs.Prelude.{◌≡◌, ◌≢◌, ℕ, Bool, true, false, List, [], ◌∷◌, ◌++◌, length, take, drop, Option, Some}
+use Rattle.std.specs.Prelude.{None, Result, Ok, Err, ⊤}
 use Rattle.std.specs.List.{list_any}
 use Rattle.pcre_io.specs.Told.{Told}
 use Rattle.pcre_io.specs.Files.{Contents, Filed}

@@ -1,10 +1,12 @@
--- Words and patterns that are refused, and the texts that are asked for in place of a search (pcre2grep, "DIAGNOSTICS").
+-- Words and patterns that are refused, and the texts that are asked for in place of a search (pcre2grep,
+-- "DIAGNOSTICS").
 use Rattle.std.specs.Prelude.{ℕ, List, [], ◌++◌, codes, decimal, slice_index_or}
 use Rattle.std.specs.Fmt.{signed_decimal}
 use Rattle.grep_args.specs.declared.plan.HelpKind.{HelpKind}
 use Rattle.grep_args.specs.declared.plan.HelpKind.TheVariants.{Help, Version}
 use Rattle.grep_args.specs.declared.usage.UsageKind.{UsageKind}
-use Rattle.grep_args.specs.declared.usage.UsageKind.TheVariants.{UnknownOption, MissingValue, BadNumber, BadValue, Exclude, NoPattern}
+use Rattle.grep_args.specs.declared.usage.UsageKind.TheVariants.{UnknownOption, MissingValue, BadNumber, BadValue}
+use Rattle.grep_args.specs.declared.usage.UsageKind.TheVariants.{Exclude, NoPattern}
 use Rattle.grep_args.specs.declared.options.FilterOption.{FilterOption}
 use Rattle.grep_args.specs.declared.options.FilterOption.TheVariants.{Include, Exclude, IncludeDir, ExcludeDir}
 use Rattle.grep_args.specs.Words.{Fault}

@@ -6,8 +6,8 @@ use Rattle.tool_io.specs.Outcomes.{RunOutcome}
 use Rattle.tool_io.specs.Prints.{Wrote, Breaks}
 use Rattle.tool_io.specs.Printed.{Printed}
 
--- The text was written; at the last match error that there may be the status is 2. Or a part of it was written, where the
--- run can't go on.
+-- The text was written; at the last match error that there may be the status is 2. Or a part of it was written, where
+-- the run can't go on.
 abbrev pub RunsBy : RunOutcome → Printed → Printed → Result ℕ Stop → Type 0
 RunsBy text old new (Ok status) = Wrote text.out text.err old new × (status ≡ text.status)
 RunsBy text old new (Err TooManyErrors) = Wrote text.out text.err old new × (text.status ≡ 2)

@@ -1,5 +1,5 @@
--- What searching the targets does, one by one: a target, and how the search stood → what it stands for → its report → what was
--- written, and how the search stands then.
+-- What searching the targets does, one by one: a target, and how the search stood → what it stands for → its report →
+-- what was written, and how the search stands then.
 use Rattle.std.specs.Prelude.{◌≡◌, ℕ, ◌≤◌, ◌<◌, ◌^◌, Bool, List, [], ◌∷◌, Option, Some, None, Result, Ok, Err}
 use Rattle.pcre_io.specs.Told.{Told}
 use Rattle.pcre_io.specs.Files.{Contents}

@@ -1,5 +1,5 @@
--- What a run does from each of its stages on: words, their plan, and its patterns → the targets that it asks for → what these
--- stand for → its text.
+-- What a run does from each of its stages on: words, their plan, and its patterns → the targets that it asks for → what
+-- these stand for → its text.
 use Rattle.std.specs.Prelude.{◌≡◌, ℕ, Bool, List, ◌++◌, length, Result}
 use Rattle.pcre_io.specs.Told.{Told}
 use Rattle.pcre_io.specs.Files.{Filed}

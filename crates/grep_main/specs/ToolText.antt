@@ -1,6 +1,8 @@
--- What pcre2grep writes, and its status (pcre2grep, "OPTIONS", -t, and "DIAGNOSTICS"): words → plan → patterns → filter →
--- reports → text, total and status.
-use Rattle.std.specs.Prelude.{ℕ, ◌==◌, Bool, true, false, ◌&&◌, ◌||◌, not, nat_lt, nat_le, if◌then◌else◌, List, [], ◌++◌, length, take, drop, map, flat_map, filter, sum_by, codes, decimal, bytes_eq, Option, Some, None, Result, Ok, Err}
+-- What pcre2grep writes, and its status (pcre2grep, "OPTIONS", -t, and "DIAGNOSTICS"): words → plan → patterns → filter
+-- → reports → text, total and status.
+use Rattle.std.specs.Prelude.{ℕ, ◌==◌, Bool, true, false, ◌&&◌, ◌||◌, not, nat_lt, nat_le, if◌then◌else◌, List, []}
+use Rattle.std.specs.Prelude.{◌++◌, length, take, drop, map, flat_map, filter, sum_by, codes, decimal, bytes_eq}
+use Rattle.std.specs.Prelude.{Option, Some, None, Result, Ok, Err}
 use Rattle.std.specs.List.{list_any}
 use Rattle.line_feed.specs.Rows.{At, End}
 use Rattle.grep_args.specs.declared.plan.GrepPlan.{GrepPlan}

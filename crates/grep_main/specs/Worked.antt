@@ -50,7 +50,8 @@ pub record WorkedRows : Type 0 where
   pub binary : over_files (binary_file ∷ []) ("x" ∷ "f" ∷ [])
       ≡ outcome "Binary file f matches\n" "" 0
   pub fixed : over "a.b\nadb\nc\n" ("-cFe" ∷ "a.b\nc" ∷ []) ≡ outcome "2\n" "" 0
-  pub match_error : over "ab\ncb\n" ("-nv" ∷ "--match-limit=0" ∷ "a+b" ∷ []) ≡ outcome "2:cb\n" "pcre2grep: (standard input): line 1: error -47\n" 0
+  pub match_error : over "ab\ncb\n" ("-nv" ∷ "--match-limit=0" ∷ "a+b" ∷ []) ≡ outcome "2:cb\n"
+      "pcre2grep: (standard input): line 1: error -47\n" 0
   pub twenty_errors : (over_errors 20 []).out ≡ codes "x\nx\n"
   pub too_many_errors : (over_errors 21 []).out ≡ codes "x\n"
   pub refused : over "" ("a(" ∷ [])
@@ -58,7 +59,8 @@ pub record WorkedRows : Type 0 where
   pub looked_behind : over "ab\ncb\n" ("-o" ∷ "(?<=a|xy)b" ∷ []) ≡ outcome "b\n" "" 0
   pub refused_behind : over "" ("x(?<=(?<=a+)b)c" ∷ [])
       ≡ outcome "" "pcre2grep: pattern 1: error 125 at offset 5: lookbehind is not fixed length\n" 2
-  pub too_long : over "ab\nabcde\nb\n" ("--max-buffer-size=4" ∷ "b" ∷ []) ≡ outcome "ab\n" "pcre2grep: (standard input): line 2 is too long\n" 2
+  pub too_long : over "ab\nabcde\nb\n" ("--max-buffer-size=4" ∷ "b" ∷ []) ≡ outcome "ab\n"
+      "pcre2grep: (standard input): line 2 is too long\n" 2
   pub included : over_files tree_files ("-r" ∷ "--include=\\.c$" ∷ "x" ∷ "d" ∷ [])
       ≡ outcome "d/a.c:x\nd/sub/c.c:x\n" "" 0
   pub excluded_directory : over_files tree_files ("-r" ∷ "--exclude-dir=^sub$" ∷ "x" ∷ "d" ∷ [])

@@ -1,7 +1,8 @@
 //! Messages of a run, and the texts that are asked for in place of a search.
 ghost use Rattle.std.specs.Prelude.{◌≡◌, [], ◌++◌, map, string_bytes, slice_index_or};
 ghost use Rattle.grep_output.specs.Messages.{message};
-ghost use Rattle.grep_main.specs.Refusals.{usage_text, usage_message, refused_message, pattern_message, filter_message, filter_name, help_text};
+ghost use Rattle.grep_main.specs.Refusals.{usage_text, usage_message, refused_message, pattern_message};
+ghost use Rattle.grep_main.specs.Refusals.{filter_message, filter_name, help_text};
 ghost use Rattle.grep_main.specs.PatternFiles.{missing_message};
 ghost use Rattle.tool_io.specs.Writes.{Writes};
 

@@ -1,5 +1,6 @@
 -- A line that lacks what every match needs.
-use Rattle.std.proofs.Common.{◌≡◌, ◌∙◌, ℕ, suc, ◌+◌, ◌<◌, ◌≤◌, ◌||◌, List, ◌∷◌, length, drop, get_or, Bool, true, false, pos, refl, sym, ap, subst, arith}
+use Rattle.std.proofs.Common.{◌≡◌, ◌∙◌, ℕ, suc, ◌+◌, ◌<◌, ◌≤◌, ◌||◌, List, ◌∷◌, length, drop, get_or, Bool, true}
+use Rattle.std.proofs.Common.{false, pos, refl, sym, ap, subst, arith}
 use Rattle.std.proofs.Math.Seq.{drop-cons}
 use Rattle.std.proofs.lemmas.List.{drop_all}
 use Rattle.uni_text.specs.Characters.{IsChecked}
@@ -24,36 +25,49 @@ or_true false = refl
 -- what two texts have together
 module _ (all some more : List (List Bool)) (joined : AreUnions all some more) where
   lacks-some : (line : List ℕ) → Lacks all line → Lacks some line
-  lacks-some line h = record { small = h.small; missing = λ k stands. h.missing k (stands_left all some more joined line k stands) }
+  lacks-some line h = record {
+    small = h.small;
+    missing = λ k stands. h.missing k (stands_left all some more joined line k stands);
+  }
 
   lacks-more : (line : List ℕ) → Lacks all line → Lacks more line
-  lacks-more line h = record { small = h.small; missing = λ k stands. h.missing k (stands_right all some more joined line k stands) }
+  lacks-more line h = record {
+    small = h.small;
+    missing = λ k stands. h.missing k (stands_right all some more joined line k stands);
+  }
 
 -- the first i patterns find nothing in a line that is without what is needed
 abbrev pub FirstFindNone : MatchOptions → List CodeParts → Needed → ℕ → Type 0
 FirstFindNone matching codes needed i =
-    (line : List ℕ) → IsWithout needed line → first_answer matching line 0 (patterns_in (drop i codes)) ≡ first_answer matching line 0 (patterns_in codes)
+    (line : List ℕ) → IsWithout needed line → first_answer matching line 0 (patterns_in (drop i codes)) ≡ first_answer
+    matching line 0 (patterns_in codes)
 
-pub one_none : (matching : MatchOptions) (line : List ℕ) (p : Pattern) (ps : List Pattern) → pattern_answer matching line 0 p ≡ none
+pub one_none : (matching : MatchOptions) (line : List ℕ) (p : Pattern) (ps : List Pattern)
+    → pattern_answer matching line 0 p ≡ none
     → first_answer matching line 0 (p ∷ ps) ≡ first_answer matching line 0 ps
 one_none matching line p ps e = rw (e, first_answer) refl
 
-pub next_none : (matching : MatchOptions) (codes : List CodeParts) (i : ℕ) (code : CodeParts) (all some : Needed) (more : List (List Bool))
+pub next_none : (matching : MatchOptions) (codes : List CodeParts) (i : ℕ) (code : CodeParts) (all some : Needed)
+    (more : List (List Bool))
     → i < length codes → code ≡ get_or codes i code → FindsNone code matching all.most more
-    → AreUnions (sets_of all.text) (sets_of some.text) more → some.most ≡ all.most → all.utf ≡ (some.utf || code.tree.options.utf)
+    → AreUnions (sets_of all.text) (sets_of some.text) more → some.most ≡ all.most
+    → all.utf ≡ (some.utf || code.tree.options.utf)
     → FirstFindNone matching codes some i → FirstFindNone matching codes all (i + 1)
 next_none matching codes i code all some more within is finds joined most utf first line without =
     let checked = subst (λ b. IsChecked b line) utf without.checked in
     let here =
-    finds line (λ _. pos 0) without.short (lacks-more (sets_of all.text) (sets_of some.text) more joined line without.lacks) (λ on. checked (rw (on, or_true some.utf) refl)) in
+    finds line (λ _. pos 0) without.short (lacks-more (sets_of all.text) (sets_of some.text) more joined line
+    without.lacks) (λ on. checked (rw (on, or_true some.utf) refl)) in
     let before : IsWithout some line = record {
       short = subst (λ n. length line ≤ n) (sym most) without.short;
       lacks = lacks-some (sets_of all.text) (sets_of some.text) more joined line without.lacks;
       checked = λ on. checked (rw on refl);
     } in
     let cut : drop i codes ≡ code ∷ drop (i + 1) codes =
-    drop-cons codes i code within ∙ ap (λ x. x ∷ drop (suc i) codes) (sym is) ∙ ap (λ n. code ∷ drop n codes) {x = suc i} {y = i + 1} (omega arith) in
-    sym (ap (λ l. first_answer matching line 0 (patterns_in l)) cut ∙ one_none matching line (pattern_of code.tree) (patterns_in (drop (i + 1) codes)) here)
+    drop-cons codes i code within ∙ ap (λ x. x ∷ drop (suc i) codes) (sym is)
+    ∙ ap (λ n. code ∷ drop n codes) {x = suc i} {y = i + 1} (omega arith) in
+    sym (ap (λ l. first_answer matching line 0 (patterns_in l)) cut
+    ∙ one_none matching line (pattern_of code.tree) (patterns_in (drop (i + 1) codes)) here)
     ∙ first line before
 
 pub all_none : (matching : MatchOptions) (codes : List CodeParts) (i : ℕ) (needed : Needed) → length codes ≤ i
@@ -62,7 +76,8 @@ all_none matching codes i needed past first line without =
     sym (first line without) ∙ ap (λ l. first_answer matching line 0 (patterns_in l)) (drop_all i codes past)
 
 -- no search of such a line finds anything
-pub are_needed : (plan : GrepPlan) (matching : MatchOptions) (patterns : List Pattern) (needed : Needed) → matching ≡ limits plan
+pub are_needed : (plan : GrepPlan) (matching : MatchOptions) (patterns : List Pattern) (needed : Needed)
+    → matching ≡ limits plan
     → NoneAnswers matching patterns needed → AreNeeded plan patterns needed
 are_needed plan matching patterns needed same finds line without =
     line_none plan patterns line (subst (λ m. first_answer m line 0 patterns ≡ none) same (finds line without))

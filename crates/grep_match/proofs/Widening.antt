@@ -1,5 +1,7 @@
 -- A line in which no match of an expression begins that is found wherever a pattern matches.
-use Rattle.std.proofs.Common.{◌≡◌, ◌≢◌, ◌∙◌, ℕ, suc, ◌+◌, ◌<◌, ◌≤◌, ◌||◌, ◌⊎◌, inl, inr, List, [], ◌∷◌, ◌++◌, length, map, drop, get_or, Bool, true, false, Option, Some, None, IfSome, pos, refl, sym, ap, subst, arith}
+use Rattle.std.proofs.Common.{◌≡◌, ◌≢◌, ◌∙◌, ℕ, suc, ◌+◌, ◌<◌, ◌≤◌, ◌||◌, ◌⊎◌, inl, inr, List, [], ◌∷◌, ◌++◌, length}
+use Rattle.std.proofs.Common.{map, drop, get_or, Bool, true, false, Option, Some, None, IfSome, pos, refl, sym, ap}
+use Rattle.std.proofs.Common.{subst, arith}
 use Rattle.std.specs.Prelude.{slice_index}
 use Rattle.std.proofs.Math.Seq.{drop-cons}
 use Rattle.std.proofs.lemmas.List.{drop_all, map-append}
@@ -24,30 +26,37 @@ use Rattle.grep_match.proofs.Lacking.{or_true, one_none}
 
 -- A branch more takes nothing away.
 
-pub alt-left : (hay : List ℕ) (xs : List Re) (x : Re) (i j : ℕ) → Matches hay (alt_all xs) i j → Matches hay (alt_all (xs ++ x ∷ [])) i j
+pub alt-left : (hay : List ℕ) (xs : List Re) (x : Re) (i j : ℕ) → Matches hay (alt_all xs) i j
+    → Matches hay (alt_all (xs ++ x ∷ [])) i j
 unfolding in_ranges
 alt-left hay [] x i j h = absurd (let never : false ≡ true = h.2 in cc)
 alt-left hay (y ∷ ys) x i j (inl here) = inl here
 alt-left hay (y ∷ ys) x i j (inr rest) = inr (alt-left hay ys x i j rest)
 
-pub alt-last : (hay : List ℕ) (xs : List Re) (x : Re) (i j : ℕ) → Matches hay x i j → Matches hay (alt_all (xs ++ x ∷ [])) i j
+pub alt-last : (hay : List ℕ) (xs : List Re) (x : Re) (i j : ℕ) → Matches hay x i j
+    → Matches hay (alt_all (xs ++ x ∷ [])) i j
 alt-last hay [] x i j h = inl h
 alt-last hay (y ∷ ys) x i j h = inr (alt-last hay ys x i j h)
 
 abbrev pub branches : List Hir → Re
 branches hirs = alt_all (map meaning hirs)
 
-branches-more : (hirs : List Hir) (hir : Hir) → branches (hirs ++ hir ∷ []) ≡ alt_all (map meaning hirs ++ meaning hir ∷ [])
+branches-more : (hirs : List Hir) (hir : Hir) → branches (hirs ++ hir ∷ []) ≡ alt_all
+    (map meaning hirs ++ meaning hir ∷ [])
 branches-more hirs hir = ap alt_all (map-append meaning hirs (hir ∷ []))
 
 module _ (hirs : List Hir) (hir : Hir) (before line after : List ℕ) where
-  lacks-some : (i j : ℕ) → ¬ Matches (before ++ (line ++ after)) (branches (hirs ++ hir ∷ [])) i j → ¬ Matches (before ++ (line ++ after)) (branches hirs) i j
+  lacks-some : (i j : ℕ) → ¬ Matches (before ++ (line ++ after)) (branches (hirs ++ hir ∷ [])) i j
+      → ¬ Matches (before ++ (line ++ after)) (branches hirs) i j
   lacks-some i j lacks h =
-      lacks (subst (λ re. Matches (before ++ (line ++ after)) re i j) (sym (branches-more hirs hir)) (alt-left (before ++ (line ++ after)) (map meaning hirs) (meaning hir) i j h))
+      lacks (subst (λ re. Matches (before ++ (line ++ after)) re i j) (sym (branches-more hirs hir))
+      (alt-left (before ++ (line ++ after)) (map meaning hirs) (meaning hir) i j h))
 
-  lacks-last : (i j : ℕ) → ¬ Matches (before ++ (line ++ after)) (branches (hirs ++ hir ∷ [])) i j → ¬ Matches (before ++ (line ++ after)) (meaning hir) i j
+  lacks-last : (i j : ℕ) → ¬ Matches (before ++ (line ++ after)) (branches (hirs ++ hir ∷ [])) i j
+      → ¬ Matches (before ++ (line ++ after)) (meaning hir) i j
   lacks-last i j lacks h =
-      lacks (subst (λ re. Matches (before ++ (line ++ after)) re i j) (sym (branches-more hirs hir)) (alt-last (before ++ (line ++ after)) (map meaning hirs) (meaning hir) i j h))
+      lacks (subst (λ re. Matches (before ++ (line ++ after)) re i j) (sym (branches-more hirs hir))
+      (alt-last (before ++ (line ++ after)) (map meaning hirs) (meaning hir) i j h))
 
 -- the first i patterns find nothing in a line in which no match of their branches begins
 abbrev pub FirstMatchNone : MatchOptions → List CodeParts → ℕ → List Hir → Bool → ℕ → Type 0
@@ -55,14 +64,19 @@ FirstMatchNone matching codes most hirs utf i =
     (before line after : List ℕ) → LacksMatch (branches hirs) most utf before line after
     → first_answer matching line 0 (patterns_in (drop i codes)) ≡ first_answer matching line 0 (patterns_in codes)
 
-pub next_misses : (matching : MatchOptions) (codes : List CodeParts) (i : ℕ) (code : CodeParts) (most : ℕ) (hirs all : List Hir) (hir : Hir) (some utf : Bool)
-    → i < length codes → code ≡ get_or codes i code → MissesLines code matching most (meaning hir) → all ≡ hirs ++ hir ∷ [] → utf ≡ (some || code.tree.options.utf)
+pub next_misses : (matching : MatchOptions) (codes : List CodeParts) (i : ℕ) (code : CodeParts) (most : ℕ)
+    (hirs all : List Hir) (hir : Hir) (some utf : Bool)
+    → i < length codes → code ≡ get_or codes i code → MissesLines code matching most (meaning hir)
+    → all ≡ hirs ++ hir ∷ [] → utf ≡ (some || code.tree.options.utf)
     → FirstMatchNone matching codes most hirs some i → FirstMatchNone matching codes most all utf (i + 1)
-next_misses matching codes i code most hirs all hir some utf within is misses joined both first before line after lacks =
+next_misses matching codes i code most hirs all hir some utf within is misses joined both first before line after
+    lacks =
     let checked = subst (λ b. IsChecked b line) both lacks.checked in
-    let none_begins = subst (λ hs. (i j : ℕ) → length before ≤ i → i ≤ length before + length line → ¬ Matches (before ++ (line ++ after)) (branches hs) i j) joined lacks.lacks in
+    let none_begins = subst (λ hs. (i j : ℕ) → length before ≤ i → i ≤ length before + length line → ¬ Matches
+    (before ++ (line ++ after)) (branches hs) i j) joined lacks.lacks in
     let here =
-    misses before line after (λ _. pos 0) lacks.short lacks.small lacks.whole lacks.is_line (λ on. checked (rw (on, or_true some) refl))
+    misses before line after (λ _. pos 0) lacks.short lacks.small lacks.whole lacks.is_line
+    (λ on. checked (rw (on, or_true some) refl))
     (λ a b low high. lacks-last hirs hir before line after a b (none_begins a b low high)) in
     let fewer : LacksMatch (branches hirs) most some before line after = record {
       short = lacks.short;
@@ -73,23 +87,29 @@ next_misses matching codes i code most hirs all hir some utf within is misses jo
       lacks = λ a b low high. lacks-some hirs hir before line after a b (none_begins a b low high);
     } in
     let cut : drop i codes ≡ code ∷ drop (i + 1) codes =
-    drop-cons codes i code within ∙ ap (λ x. x ∷ drop (suc i) codes) (sym is) ∙ ap (λ n. code ∷ drop n codes) {x = suc i} {y = i + 1} (omega arith) in
-    sym (ap (λ l. first_answer matching line 0 (patterns_in l)) cut ∙ one_none matching line (pattern_of code.tree) (patterns_in (drop (i + 1) codes)) here)
+    drop-cons codes i code within ∙ ap (λ x. x ∷ drop (suc i) codes) (sym is)
+    ∙ ap (λ n. code ∷ drop n codes) {x = suc i} {y = i + 1} (omega arith) in
+    sym (ap (λ l. first_answer matching line 0 (patterns_in l)) cut
+    ∙ one_none matching line (pattern_of code.tree) (patterns_in (drop (i + 1) codes)) here)
     ∙ first before line after fewer
 
-pub all_miss : (matching : MatchOptions) (codes : List CodeParts) (i : ℕ) (wider : Wider) (hirs : List Hir) → length codes ≤ i → meaning wider.hir ≡ branches hirs
+pub all_miss : (matching : MatchOptions) (codes : List CodeParts) (i : ℕ) (wider : Wider) (hirs : List Hir)
+    → length codes ≤ i → meaning wider.hir ≡ branches hirs
     → FirstMatchNone matching codes wider.most hirs wider.utf i → NoneMatches matching (patterns_in codes) wider
 all_miss matching codes i wider hirs past is first before line after lacks =
     sym (first before line after (subst (λ re. LacksMatch re wider.most wider.utf before line after) is lacks))
     ∙ ap (λ l. first_answer matching line 0 (patterns_in l)) (drop_all i codes past)
 
 -- no search of such a line finds anything
-pub are_wider : (plan : GrepPlan) (matching : MatchOptions) (patterns : List Pattern) (wider : Wider) → matching ≡ limits plan
+pub are_wider : (plan : GrepPlan) (matching : MatchOptions) (patterns : List Pattern) (wider : Wider)
+    → matching ≡ limits plan
     → NoneMatches matching patterns wider → AreWider plan patterns wider
 are_wider plan matching patterns wider same finds before line after lacks =
-    line_none plan patterns line (subst (λ m. first_answer m line 0 patterns ≡ none) same (finds before line after lacks))
+    line_none plan patterns line (subst (λ m. first_answer m line 0 patterns ≡ none) same
+    (finds before line after lacks))
 
-pub if_wider : (plan : GrepPlan) (matching : MatchOptions) (patterns : List Pattern) (found : Option Wider) → matching ≡ limits plan
+pub if_wider : (plan : GrepPlan) (matching : MatchOptions) (patterns : List Pattern) (found : Option Wider)
+    → matching ≡ limits plan
     → IfSome found (NoneMatches matching patterns) → IfSome found (AreWider plan patterns)
 if_wider plan matching patterns None same finds = finds
 if_wider plan matching patterns (Some wider) same finds = are_wider plan matching patterns wider same finds

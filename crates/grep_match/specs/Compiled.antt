@@ -44,7 +44,8 @@ IsPatternError found (refused.Bad pattern number at) =
     found ≡ Err (record { number = pattern; fault = record { number = number; at = at } })
 IsPatternError found refused.Memory = Unit {0}
 
--- What compiling these texts adds to the patterns that there are: the patterns of all, or the first that is refused is told.
+-- What compiling these texts adds to the patterns that there are: the patterns of all, or the first that is refused is
+-- told.
 abbrev pub Adds : {A : Type 0} → Options → List (List ℕ) → List CodeParts → List CodeParts
     → Result A PatternError → Type 0
 Adds options texts old new (Ok _) =

@@ -1,5 +1,6 @@
 -- The matches of a line (pcre2grep, "DESCRIPTION" and "OPTIONS", -e, -o and -v).
-use Rattle.std.specs.Prelude.{ℕ, zero, suc, ◌+◌, Bool, true, false, ◌&&◌, not, List, [], ◌∷◌, length, ℤ, Result, Ok, Err}
+use Rattle.std.specs.Prelude.{ℕ, zero, suc, ◌+◌, Bool, true, false, ◌&&◌, not, List, [], ◌∷◌, length, ℤ, Result, Ok}
+use Rattle.std.specs.Prelude.{Err}
 use Rattle.pat_tree.specs.declared.options.MatchOptions.{MatchOptions}
 use Rattle.pat_tree.specs.declared.options.TheConstants.MatchOptions as plain_match
 use Rattle.ordered_search.specs.PlaceAnswer.{Outcome}

@@ -5,7 +5,8 @@ use Rattle.grep_args.specs.declared.plan.NameMode.TheVariants.{With, Matching, N
 use Rattle.grep_args.specs.declared.plan.GrepPlan.{GrepPlan}
 use Rattle.grep_args.specs.Effects.{is_empty, no_offsets}
 use Rattle.grep_match.specs.declared.modes.Mode.{Mode}
-use Rattle.grep_match.specs.declared.modes.Mode.TheVariants.{Nothing, NamesWithout, Counts, NamesWith, Total, Parts, WholeLines}
+use Rattle.grep_match.specs.declared.modes.Mode.TheVariants.{Nothing, NamesWithout, Counts, NamesWith, Total, Parts}
+use Rattle.grep_match.specs.declared.modes.Mode.TheVariants.{WholeLines}
 
 abbrev pub is_with : NameMode → Bool
 is_with With = true

@@ -1,5 +1,6 @@
 -- The texts of the patterns that are searched for (pcre2grep, "OPTIONS": -e, -F, -i, -N, -u, -w and -x).
-use Rattle.std.specs.Prelude.{ℕ, ◌&&◌, ◌||◌, not, nat_lt, if◌then◌else◌, List, [], ◌∷◌, ◌++◌, length, map, flat_map, codes}
+use Rattle.std.specs.Prelude.{ℕ, ◌&&◌, ◌||◌, not, nat_lt, if◌then◌else◌, List, [], ◌∷◌, ◌++◌, length, map, flat_map}
+use Rattle.std.specs.Prelude.{codes}
 use Rattle.std.specs.Str.{byte}
 use Rattle.uni_text.specs.Ascii.{is_letter, is_digit}
 use Rattle.byte_lanes.specs.declared.line_end.EndKind.{EndKind}

@@ -15,7 +15,8 @@ use std::alloc::Global;
 // Longer lines than the first of these that serves are searched: some patterns pass no limit on short lines alone.
 const LENGTHS: [u32; 3] = [65_535, 2_047, 127];
 
-/// An expression of which a match begins in each line that has a match of a pattern. It may be found in other lines too.
+/// An expression of which a match begins in each line that has a match of a pattern. It may be found in other lines
+/// too.
 #[derive(Drop)]
 pub struct Wider {
     pub hir: Hir,
@@ -56,8 +57,8 @@ fn wider_within(
     Ok(Some(Wider { hir, most, utf }))
 }
 
-/// An expression that is found in each line that has a match, under the limits of the plan: a line before the one in which
-/// it is first found isn't searched. None where no such expression is known, or for want of memory.
+/// An expression that is found in each line that has a match, under the limits of the plan: a line before the one in
+/// which it is first found isn't searched. None where no such expression is known, or for want of memory.
 pub fn wider_of(alloc: Global, plan: &GrepPlan, patterns: &Patterns) -> Option<Wider>
     ensures { IfSome result (AreWider plan.now (patterns_in patterns.now)) }
 {

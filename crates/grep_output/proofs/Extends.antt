@@ -1,5 +1,7 @@
 -- What is written of the lines so far is the first part of what is written of the whole input.
-use Rattle.std.proofs.Common.{◌≡◌, ℕ, ◌+◌, ◌<◌, ◌≤◌, ◌||◌, Bool, true, false, List, [], ◌∷◌, ◌++◌, length, take, Option, Some, None, Ok, Err, refl, sym, ap, subst, ◌∙◌, ⊎_elim, ◌⊎◌, inl, inr, arith, append_assoc, append-nil, length-take}
+use Rattle.std.proofs.Common.{◌≡◌, ℕ, ◌+◌, ◌<◌, ◌≤◌, ◌||◌, Bool, true, false, List, [], ◌∷◌, ◌++◌, length, take}
+use Rattle.std.proofs.Common.{Option, Some, None, Ok, Err, refl, sym, ap, subst, ◌∙◌, ⊎_elim, ◌⊎◌, inl, inr, arith}
+use Rattle.std.proofs.Common.{append_assoc, append-nil, length-take}
 use Rattle.std.specs.Prelude.{filter, flat_map}
 use Rattle.std.proofs.lemmas.Bool.{cases_Bool, cases_lt, false≢true}
 use Rattle.std.proofs.lemmas.List.{map-append, length-map}
@@ -18,9 +20,11 @@ use Rattle.grep_output.specs.Messages.{error_message}
 use Rattle.grep_output.specs.Course.{Course, row_out, course_after, line_as, AreNumbered, scan_so_far}
 use Rattle.grep_output.proofs.ReachRows.{numbered-left, numbered-right, numbered-take}
 use Rattle.grep_output.proofs.Reached.{Reached, reached-more, out-more, out-follow, out-broken}
-use Rattle.grep_output.proofs.ScanEnds.{count, count-more, count-one, count-none, scanned, scan-whole, scan-early, scan-broken, early-tried, early-within, broken-within}
+use Rattle.grep_output.proofs.ScanEnds.{count, count-more, count-one, count-none, scanned, scan-whole, scan-early}
+use Rattle.grep_output.proofs.ScanEnds.{scan-broken, early-tried, early-within, broken-within}
 
-selects-error : (invert : Bool) (m : Matches) → elim m [ Ok os ↦ false | Err e ↦ true ] ≡ true → selects invert m ≡ false
+selects-error : (invert : Bool) (m : Matches) → elim m [ Ok os ↦ false | Err e ↦ true ] ≡ true
+    → selects invert m ≡ false
 selects-error invert (Ok os) e = absurd (false≢true e)
 selects-error invert (Err n) e = refl
 
@@ -34,27 +38,33 @@ follow_out plan name show.Lines fs = flat_map (line_as plan name false) fs
 follow_out plan name _ fs = []
 
 -- a scan begins with these lines, and what is shown of it so
-pub record TextsBegin (plan : GrepPlan) (name : List ℕ) (shows : Show) (hs : Bool) (s : Scan) (out : List ℕ) (us : List Tried) : Type 0 where
+pub record TextsBegin (plan : GrepPlan) (name : List ℕ) (shows : Show) (hs : Bool) (s : Scan) (out : List ℕ)
+    (us : List Tried) : Type 0 where
   pub rest_out : List ℕ
   pub rest : List Tried
   pub out_is : shown_out plan name shows hs s ≡ out ++ rest_out
   pub tried_is : s.tried ≡ us ++ rest
 
 -- what is said of one more line
-pub said-more : (name : List ℕ) (us : List Tried) (t : Tried) → flat_map (error_message name) (us ++ t ∷ []) ≡ flat_map (error_message name) us ++ error_message name t
-said-more name us t = flat_map-append (error_message name) us (t ∷ []) ∙ ap (λ l. flat_map (error_message name) us ++ l) (append-nil (error_message name t))
+pub said-more : (name : List ℕ) (us : List Tried) (t : Tried)
+    → flat_map (error_message name) (us ++ t ∷ []) ≡ flat_map (error_message name) us ++ error_message name t
+said-more name us t = flat_map-append (error_message name) us (t ∷ [])
+    ∙ ap (λ l. flat_map (error_message name) us ++ l) (append-nil (error_message name t))
 
 -- the number of a line
-pub number-of : (us : List Tried) (t : Tried) (vs : List Tried) → AreNumbered 1 (rows_of (us ++ t ∷ vs)) → t.row.number ≡ length us + 1
+pub number-of : (us : List Tried) (t : Tried) (vs : List Tried) → AreNumbered 1 (rows_of (us ++ t ∷ vs))
+    → t.row.number ≡ length us + 1
 number-of us t vs numbered =
-    let all : rows_of (us ++ t ∷ vs) ≡ rows_of us ++ t.row ∷ rows_of vs = map-append (λ (x : Tried). x.row) us (t ∷ vs) in
+    let all : rows_of (us ++ t ∷ vs) ≡ rows_of us ++ t.row ∷ rows_of vs =
+    map-append (λ (x : Tried). x.row) us (t ∷ vs) in
     let right = numbered-right 1 (rows_of us) (t.row ∷ rows_of vs) (subst (λ l. AreNumbered 1 l) all numbered) in
     let here = right.0 in
     let long = length-map us (λ (x : Tried). x.row) in
     omega arith
 
 pub numbered-first : (us vs : List Tried) → AreNumbered 1 (rows_of (us ++ vs)) → AreNumbered 1 (rows_of us)
-numbered-first us vs numbered = numbered-left 1 (rows_of us) (rows_of vs) (subst (λ l. AreNumbered 1 l) (map-append (λ (x : Tried). x.row) us vs) numbered)
+numbered-first us vs numbered = numbered-left 1 (rows_of us) (rows_of vs)
+    (subst (λ l. AreNumbered 1 l) (map-append (λ (x : Tried). x.row) us vs) numbered)
 
 module _ (plan : GrepPlan) (shows : Show) (left : ℕ) (most : Option ℕ) where
   -- no line so far ends the scan
@@ -79,57 +89,76 @@ module _ (plan : GrepPlan) (shows : Show) (left : ℕ) (most : Option ℕ) where
     pub few : count has_error (us ++ t ∷ []) < left
     pub below : IsBelow most (count (is_selected plan) (us ++ t ∷ []))
 
-  pub goes-on : (us : List Tried) (c : Course) (t : Tried) → Goes us c → AreNumbered 1 (rows_of (us ++ t ∷ [])) → GoesOn us t → Goes (us ++ t ∷ []) (course_after plan shows c t)
+  pub goes-on : (us : List Tried) (c : Course) (t : Tried) → Goes us c → AreNumbered 1 (rows_of (us ++ t ∷ []))
+      → GoesOn us t → Goes (us ++ t ∷ []) (course_after plan shows c t)
   goes-on us c t goes numbered on = record {
-    reached = reached-more plan shows us c t goes.reached (numbered-first us (t ∷ []) numbered) (number-of us t [] numbered);
+    reached = reached-more plan shows us c t goes.reached (numbered-first us (t ∷ []) numbered)
+        (number-of us t [] numbered);
     few = on.few;
     below = on.below;
   }
 
 -- a line that isn't selected
-pub still-below : (plan : GrepPlan) (most : Option ℕ) (us : List Tried) (t : Tried) → is_selected plan t ≡ false → IsBelow most (count (is_selected plan) us) → IsBelow most (count (is_selected plan) (us ++ t ∷ []))
+pub still-below : (plan : GrepPlan) (most : Option ℕ) (us : List Tried) (t : Tried) → is_selected plan t ≡ false
+    → IsBelow most (count (is_selected plan) us) → IsBelow most (count (is_selected plan) (us ++ t ∷ []))
 still-below plan most us t e below =
     let sel = is_selected plan in
-    let same : count sel (us ++ t ∷ []) ≡ count sel us = count-more sel us t ∙ ap (λ n. count sel us + n) (count-none sel t e) ∙ (let h : count sel us + 0 ≡ count sel us = omega arith in h) in
+    let same : count sel (us ++ t ∷ []) ≡ count sel us = count-more sel us t
+    ∙ ap (λ n. count sel us + n) (count-none sel t e)
+    ∙ (let h : count sel us + 0 ≡ count sel us = omega arith in h) in
     subst (λ n. IsBelow most n) (sym same) below
 
-selected-below : (plan : GrepPlan) (left : ℕ) (most : Option ℕ) (us : List Tried) (t : Tried) → is_selected plan t ≡ true → IsBelow most (count (is_selected plan) us) → count has_error (us ++ t ∷ []) < left
+selected-below : (plan : GrepPlan) (left : ℕ) (most : Option ℕ) (us : List Tried) (t : Tried)
+    → is_selected plan t ≡ true → IsBelow most (count (is_selected plan) us) → count has_error (us ++ t ∷ []) < left
     → LastSelected plan show.Nothing left most us t ⊎ GoesOn plan show.Nothing left most us t
 selected-below plan left None us t e below few = inr (record { few = few; below = tt })
 selected-below plan left (Some m) us t e below few =
     let sel = is_selected plan in
-    let one : count sel (us ++ t ∷ []) ≡ count sel us + 1 = count-more sel us t ∙ ap (λ n. count sel us + n) (count-one sel t e) in
+    let one : count sel (us ++ t ∷ []) ≡ count sel us + 1 = count-more sel us t
+    ∙ ap (λ n. count sel us + n) (count-one sel t e) in
     ⊎_elim
     (λ (l : count sel us + 1 < m). inr (record { few = few; below = subst (λ n. n < m) (sym one) l }))
-    (λ (l : m ≤ count sel us + 1). let is : m ≡ count sel us + 1 = omega arith in inl (record { few = few; most_is = ap Some is; selected = e }))
+    (λ (l : m ≤ count sel us + 1). let is : m ≡ count sel us + 1 = omega arith in
+    inl (record { few = few; most_is = ap Some is; selected = e }))
     (cases_lt (count sel us + 1) m)
 
 -- what the next line does
-pub next-step : (plan : GrepPlan) (shows : Show) (left : ℕ) (most : Option ℕ) (us : List Tried) (c : Course) (t : Tried) → Goes plan shows left most us c
+pub next-step : (plan : GrepPlan) (shows : Show) (left : ℕ) (most : Option ℕ) (us : List Tried) (c : Course)
+    (t : Tried) → Goes plan shows left most us c
     → LastError plan shows left most us t ⊎ (LastSelected plan shows left most us t ⊎ GoesOn plan shows left most us t)
 next-step plan shows left most us c t goes =
     let err = has_error in
     ⊎_elim
     (λ (e : err t ≡ true).
-    let one : count err (us ++ t ∷ []) ≡ count err us + 1 = count-more err us t ∙ ap (λ n. count err us + n) (count-one err t e) in
+    let one : count err (us ++ t ∷ []) ≡ count err us + 1 = count-more err us t
+    ∙ ap (λ n. count err us + n) (count-one err t e) in
     ⊎_elim
-    (λ (l : count err us + 1 < left). inr (inr (record { few = subst (λ n. n < left) (sym one) l; below = still-below plan most us t (error-unselected plan t e) goes.below })))
+    (λ (l : count err us + 1 < left). inr
+    (inr (record {
+      few = subst (λ n. n < left) (sym one) l;
+      below = still-below plan most us t (error-unselected plan t e) goes.below;
+    })))
     (λ (l : left ≤ count err us + 1). let few = goes.few in inl (record { error = e; left_is = omega arith }))
     (cases_lt (count err us + 1) left))
     (λ (e : err t ≡ false).
-    let same : count err (us ++ t ∷ []) ≡ count err us = count-more err us t ∙ ap (λ n. count err us + n) (count-none err t e) ∙ (let h : count err us + 0 ≡ count err us = omega arith in h) in
+    let same : count err (us ++ t ∷ []) ≡ count err us = count-more err us t
+    ∙ ap (λ n. count err us + n) (count-none err t e)
+    ∙ (let h : count err us + 0 ≡ count err us = omega arith in h) in
     let few : count err (us ++ t ∷ []) < left = subst (λ n. n < left) (sym same) goes.few in
     ⊎_elim
     (λ (s : is_selected plan t ≡ true).
     ⊎_elim
-    (λ (l : LastSelected plan show.Nothing left most us t). inr (inl (record { few = l.few; most_is = l.most_is; selected = l.selected })))
+    (λ (l : LastSelected plan show.Nothing left most us t). inr
+    (inl (record { few = l.few; most_is = l.most_is; selected = l.selected })))
     (λ (g : GoesOn plan show.Nothing left most us t). inr (inr (record { few = g.few; below = g.below })))
     (selected-below plan left most us t s goes.below few))
-    (λ (s : is_selected plan t ≡ false). inr (inr (record { few = few; below = still-below plan most us t s goes.below })))
+    (λ (s : is_selected plan t ≡ false). inr
+    (inr (record { few = few; below = still-below plan most us t s goes.below })))
     (cases_Bool (is_selected plan t)))
     (cases_Bool (err t))
 
-module _ (plan : GrepPlan) (name : List ℕ) (shows : Show) (hs : Bool) (left : ℕ) (most : Option ℕ) (finish : Finish) where
+module _ (plan : GrepPlan) (name : List ℕ) (shows : Show) (hs : Bool) (left : ℕ) (most : Option ℕ)
+    (finish : Finish) where
   -- the scan of these lines
   abbrev pub full : List Tried → Scan
   full ts = scanned (is_selected plan) has_error left most finish (lines_after shows plan.after_context) ts
@@ -143,49 +172,64 @@ module _ (plan : GrepPlan) (name : List ℕ) (shows : Show) (hs : Bool) (left : 
 
   -- where the lines end
   pub whole-is : (ts : List Tried) (c : Course) → Goes plan shows left most ts c → full ts ≡ whole_scan ts finish
-  whole-is ts c goes = scan-whole (is_selected plan) has_error left most finish (lines_after shows plan.after_context) ts goes.few goes.below
+  whole-is ts c goes = scan-whole (is_selected plan) has_error left most finish (lines_after shows plan.after_context)
+      ts goes.few goes.below
 
-  pub broken-is : (us : List Tried) (t : Tried) (vs : List Tried) (c : Course) → Goes plan shows left most us c → LastError plan shows left most us t
+  pub broken-is : (us : List Tried) (t : Tried) (vs : List Tried) (c : Course) → Goes plan shows left most us c
+      → LastError plan shows left most us t
       → full (us ++ t ∷ vs) ≡ broken_scan (us ++ t ∷ vs) (length us)
   broken-is us t vs c goes last =
-      scan-broken (is_selected plan) has_error left most finish (lines_after shows plan.after_context) us t vs last.left_is last.error (error-unselected plan t last.error) goes.below
+      scan-broken (is_selected plan) has_error left most finish (lines_after shows plan.after_context) us t vs
+      last.left_is last.error (error-unselected plan t last.error) goes.below
 
   pub early-is : (us : List Tried) (t : Tried) (vs : List Tried) → LastSelected plan shows left most us t
       → full (us ++ t ∷ vs) ≡ early_scan (us ++ t ∷ vs) finish (length us) (lines_after shows plan.after_context)
-  early-is us t vs last = scan-early (is_selected plan) has_error left most finish (lines_after shows plan.after_context) us t vs last.few last.most_is last.selected
+  early-is us t vs last = scan-early (is_selected plan) has_error left most finish
+      (lines_after shows plan.after_context) us t vs last.few last.most_is last.selected
 
 -- how the lines end isn't shown
-pub whole-out : (plan : GrepPlan) (name : List ℕ) (shows : Show) (hs : Bool) (us : List Tried) (finish : Finish) → shown_out plan name shows hs (whole_scan us finish) ≡ shown_out plan name shows hs (scan_so_far us)
+pub whole-out : (plan : GrepPlan) (name : List ℕ) (shows : Show) (hs : Bool) (us : List Tried) (finish : Finish)
+    → shown_out plan name shows hs (whole_scan us finish) ≡ shown_out plan name shows hs (scan_so_far us)
 whole-out plan name show.Lines hs us finish = refl
 whole-out plan name show.Parts hs us finish = refl
 whole-out plan name show.Nothing hs us finish = refl
 
 -- what is written of a scan that is broken off
-pub broken_out : (plan : GrepPlan) (name : List ℕ) (shows : Show) (hs : Bool) (us : List Tried) (t : Tried) (vs : List Tried) → has_error t ≡ true
-    → shown_out plan name shows hs (broken_scan (us ++ t ∷ vs) (length us)) ≡ shown_out plan name shows hs (scan_so_far us)
+pub broken_out : (plan : GrepPlan) (name : List ℕ) (shows : Show) (hs : Bool) (us : List Tried) (t : Tried)
+    (vs : List Tried) → has_error t ≡ true
+    → shown_out plan name shows hs (broken_scan (us ++ t ∷ vs) (length us)) ≡ shown_out plan name shows hs
+    (scan_so_far us)
 broken_out plan name show.Lines hs us t vs e =
-    (λ i. lines_text plan name hs (shown_lines plan (rows_of (filter (is_selected plan) (early-tried us t vs i))) (broken-within us t vs i)))
+    (λ i. lines_text plan name hs (shown_lines plan (rows_of (filter (is_selected plan) (early-tried us t vs i)))
+    (broken-within us t vs i)))
     ∙ ap (λ l. lines_text plan name hs (shown_lines plan (rows_of l) (rows_of us))) (out-broken plan us t e)
 broken_out plan name show.Parts hs us t vs e =
-    ap (λ l. flat_map (matches_text plan name) (filter (is_selected plan) l)) (early-tried us t vs) ∙ ap (λ l. flat_map (matches_text plan name) l) (out-broken plan us t e)
+    ap (λ l. flat_map (matches_text plan name) (filter (is_selected plan) l)) (early-tried us t vs)
+    ∙ ap (λ l. flat_map (matches_text plan name) l) (out-broken plan us t e)
 broken_out plan name show.Nothing hs us t vs e = refl
 
 -- what is written of a scan that ends early
-pub early_out : (plan : GrepPlan) (name : List ℕ) (shows : Show) (hs : Bool) (finish : Finish) (us : List Tried) (c : Course) (t : Tried) (vs : List Tried)
+pub early_out : (plan : GrepPlan) (name : List ℕ) (shows : Show) (hs : Bool) (finish : Finish) (us : List Tried)
+    (c : Course) (t : Tried) (vs : List Tried)
     → Reached plan shows (us ++ t ∷ []) c → is_selected plan t ≡ true → AreNumbered 1 (rows_of (us ++ t ∷ vs))
     → shown_out plan name shows hs (early_scan (us ++ t ∷ vs) finish (length us) (lines_after shows plan.after_context))
-    ≡ shown_out plan name shows hs (scan_so_far (us ++ t ∷ [])) ++ follow_out plan name shows (take (lines_after shows plan.after_context) (rows_of vs))
+    ≡ shown_out plan name shows hs (scan_so_far (us ++ t ∷ [])) ++ follow_out plan name shows
+    (take (lines_after shows plan.after_context) (rows_of vs))
 early_out plan name show.Lines hs finish us c t vs reached e numbered =
     let n = plan.after_context in
-    (λ i. lines_text plan name hs (shown_lines plan (rows_of (filter (is_selected plan) (early-tried us t vs i))) (early-within us t vs n i)))
+    (λ i. lines_text plan name hs (shown_lines plan (rows_of (filter (is_selected plan) (early-tried us t vs i)))
+    (early-within us t vs n i)))
     ∙ out-follow plan name hs us c t (take n (rows_of vs)) reached e
-    (subst (λ l. AreNumbered 1 l) (early-within us t vs n) (numbered-take (length us + 1 + n) 1 (rows_of (us ++ t ∷ vs)) numbered))
+    (subst (λ l. AreNumbered 1 l) (early-within us t vs n)
+    (numbered-take (length us + 1 + n) 1 (rows_of (us ++ t ∷ vs)) numbered))
     (let short = length-take n (rows_of vs) in omega arith)
 early_out plan name show.Parts hs finish us c t vs reached e numbered =
-    ap (λ l. flat_map (matches_text plan name) (filter (is_selected plan) l)) (early-tried us t vs) ∙ sym (append-nil (flat_map (matches_text plan name) (filter (is_selected plan) (us ++ t ∷ []))))
+    ap (λ l. flat_map (matches_text plan name) (filter (is_selected plan) l)) (early-tried us t vs)
+    ∙ sym (append-nil (flat_map (matches_text plan name) (filter (is_selected plan) (us ++ t ∷ []))))
 early_out plan name show.Nothing hs finish us c t vs reached e numbered = refl
 
-module _ (plan : GrepPlan) (name : List ℕ) (shows : Show) (hs : Bool) (left : ℕ) (most : Option ℕ) (finish : Finish) where
+module _ (plan : GrepPlan) (name : List ℕ) (shows : Show) (hs : Bool) (left : ℕ) (most : Option ℕ)
+    (finish : Finish) where
   abbrev all_of : List Tried → Scan
   all_of ts = full plan name shows hs left most finish ts
 
@@ -193,56 +237,75 @@ module _ (plan : GrepPlan) (name : List ℕ) (shows : Show) (hs : Bool) (left : 
   out_of ts = so_far plan name shows hs left most finish ts
 
   -- the next line has the last match error
-  pub row-broken : (us : List Tried) (c : Course) (t : Tried) (vs : List Tried) → Goes plan shows left most us c → LastError plan shows left most us t
+  pub row-broken : (us : List Tried) (c : Course) (t : Tried) (vs : List Tried) → Goes plan shows left most us c
+      → LastError plan shows left most us t
       → TextsBegin plan name shows hs (all_of (us ++ t ∷ vs)) (out_of us) (us ++ t ∷ [])
   row-broken us c t vs goes last =
       let is = broken-is plan name shows hs left most finish us t vs c goes last in record {
         rest_out = [];
         rest = [];
-        out_is = ap (λ s. shown_out plan name shows hs s) is ∙ broken_out plan name shows hs us t vs last.error ∙ sym (append-nil (out_of us));
+        out_is = ap (λ s. shown_out plan name shows hs s) is ∙ broken_out plan name shows hs us t vs last.error
+            ∙ sym (append-nil (out_of us));
         tried_is = ap (λ s. s.tried) is ∙ early-tried us t vs ∙ sym (append-nil (us ++ t ∷ []));
       }
 
-  out-of-more : (us : List Tried) (c : Course) (t : Tried) → Goes plan shows left most us c → AreNumbered 1 (rows_of (us ++ t ∷ []))
+  out-of-more : (us : List Tried) (c : Course) (t : Tried) → Goes plan shows left most us c
+      → AreNumbered 1 (rows_of (us ++ t ∷ []))
       → out_of (us ++ t ∷ []) ≡ out_of us ++ next_out plan name shows hs left most finish us c t
-  out-of-more us c t goes numbered = out-more plan name shows us c t goes.reached (numbered-first us (t ∷ []) numbered) (number-of us t [] numbered) hs
+  out-of-more us c t goes numbered = out-more plan name shows us c t goes.reached
+      (numbered-first us (t ∷ []) numbered) (number-of us t [] numbered) hs
 
-  numbered-more : (us : List Tried) (t : Tried) (vs : List Tried) → AreNumbered 1 (rows_of (us ++ t ∷ vs)) → AreNumbered 1 (rows_of (us ++ t ∷ []))
-  numbered-more us t vs numbered = numbered-first (us ++ t ∷ []) vs (subst (λ l. AreNumbered 1 (rows_of l)) (sym (append_assoc us (t ∷ []) vs)) numbered)
+  numbered-more : (us : List Tried) (t : Tried) (vs : List Tried) → AreNumbered 1 (rows_of (us ++ t ∷ vs))
+      → AreNumbered 1 (rows_of (us ++ t ∷ []))
+  numbered-more us t vs numbered = numbered-first (us ++ t ∷ []) vs
+      (subst (λ l. AreNumbered 1 (rows_of l)) (sym (append_assoc us (t ∷ []) vs)) numbered)
 
   -- where a line is the last one that is selected
-  pub early-out : (us : List Tried) (c : Course) (t : Tried) (vs : List Tried) → Reached plan shows (us ++ t ∷ []) c → LastSelected plan shows left most us t → AreNumbered 1 (rows_of (us ++ t ∷ vs))
-      → shown_out plan name shows hs (all_of (us ++ t ∷ vs)) ≡ out_of (us ++ t ∷ []) ++ follow_out plan name shows (take (lines_after shows plan.after_context) (rows_of vs))
+  pub early-out : (us : List Tried) (c : Course) (t : Tried) (vs : List Tried) → Reached plan shows (us ++ t ∷ []) c
+      → LastSelected plan shows left most us t → AreNumbered 1 (rows_of (us ++ t ∷ vs))
+      → shown_out plan name shows hs (all_of (us ++ t ∷ vs)) ≡ out_of (us ++ t ∷ []) ++ follow_out plan name shows
+      (take (lines_after shows plan.after_context) (rows_of vs))
   early-out us c t vs reached last numbered =
-      ap (λ s. shown_out plan name shows hs s) (early-is plan name shows hs left most finish us t vs last) ∙ early_out plan name shows hs finish us c t vs reached last.selected numbered
+      ap (λ s. shown_out plan name shows hs s) (early-is plan name shows hs left most finish us t vs last)
+      ∙ early_out plan name shows hs finish us c t vs reached last.selected numbered
 
-  early-lines : (us : List Tried) (t : Tried) (vs : List Tried) → LastSelected plan shows left most us t → (all_of (us ++ t ∷ vs)).tried ≡ us ++ t ∷ []
-  early-lines us t vs last = ap (λ s. s.tried) (early-is plan name shows hs left most finish us t vs last) ∙ early-tried us t vs
+  early-lines : (us : List Tried) (t : Tried) (vs : List Tried) → LastSelected plan shows left most us t
+      → (all_of (us ++ t ∷ vs)).tried ≡ us ++ t ∷ []
+  early-lines us t vs last = ap (λ s. s.tried) (early-is plan name shows hs left most finish us t vs last)
+      ∙ early-tried us t vs
 
-  row-early : (us : List Tried) (c : Course) (t : Tried) (vs : List Tried) → Goes plan shows left most us c → LastSelected plan shows left most us t → AreNumbered 1 (rows_of (us ++ t ∷ vs))
-      → TextsBegin plan name shows hs (all_of (us ++ t ∷ vs)) (out_of us ++ next_out plan name shows hs left most finish us c t) (us ++ t ∷ [])
+  row-early : (us : List Tried) (c : Course) (t : Tried) (vs : List Tried) → Goes plan shows left most us c
+      → LastSelected plan shows left most us t → AreNumbered 1 (rows_of (us ++ t ∷ vs))
+      → TextsBegin plan name shows hs (all_of (us ++ t ∷ vs))
+      (out_of us ++ next_out plan name shows hs left most finish us c t) (us ++ t ∷ [])
   row-early us c t vs goes last numbered =
       let one = numbered-more us t vs numbered in
-      let reached = reached-more plan shows us c t goes.reached (numbered-first us (t ∷ []) one) (number-of us t [] one) in
+      let reached = reached-more plan shows us c t goes.reached (numbered-first us (t ∷ []) one)
+      (number-of us t [] one) in
       let follow = follow_out plan name shows (take (lines_after shows plan.after_context) (rows_of vs)) in record {
         rest_out = follow;
         rest = [];
-        out_is = early-out us (course_after plan shows c t) t vs reached last numbered ∙ ap (λ l. l ++ follow) (out-of-more us c t goes one);
+        out_is = early-out us (course_after plan shows c t) t vs reached last numbered
+            ∙ ap (λ l. l ++ follow) (out-of-more us c t goes one);
         tried_is = early-lines us t vs last ∙ sym (append-nil (us ++ t ∷ []));
       }
 
-  row-goes : (us : List Tried) (c : Course) (t : Tried) (vs : List Tried) → Goes plan shows left most us c → AreNumbered 1 (rows_of (us ++ t ∷ vs))
+  row-goes : (us : List Tried) (c : Course) (t : Tried) (vs : List Tried) → Goes plan shows left most us c
+      → AreNumbered 1 (rows_of (us ++ t ∷ vs))
       → TextsBegin plan name shows hs (all_of ((us ++ t ∷ []) ++ vs)) (out_of (us ++ t ∷ [])) (us ++ t ∷ [])
-      → TextsBegin plan name shows hs (all_of (us ++ t ∷ vs)) (out_of us ++ next_out plan name shows hs left most finish us c t) (us ++ t ∷ [])
+      → TextsBegin plan name shows hs (all_of (us ++ t ∷ vs))
+      (out_of us ++ next_out plan name shows hs left most finish us c t) (us ++ t ∷ [])
   row-goes us c t vs goes numbered ext =
       let same = append_assoc us (t ∷ []) vs in record {
         rest_out = ext.rest_out;
         rest = ext.rest;
-        out_is = ap (λ l. shown_out plan name shows hs (all_of l)) (sym same) ∙ ext.out_is ∙ ap (λ l. l ++ ext.rest_out) (out-of-more us c t goes (numbered-more us t vs numbered));
+        out_is = ap (λ l. shown_out plan name shows hs (all_of l)) (sym same) ∙ ext.out_is
+            ∙ ap (λ l. l ++ ext.rest_out) (out-of-more us c t goes (numbered-more us t vs numbered));
         tried_is = ap (λ l. (all_of l).tried) (sym same) ∙ ext.tried_is;
       }
 
-  shorter : (s : Scan) (out more : List ℕ) (us : List Tried) (t : Tried) → TextsBegin plan name shows hs s (out ++ more) (us ++ t ∷ []) → TextsBegin plan name shows hs s out us
+  shorter : (s : Scan) (out more : List ℕ) (us : List Tried) (t : Tried)
+      → TextsBegin plan name shows hs s (out ++ more) (us ++ t ∷ []) → TextsBegin plan name shows hs s out us
   shorter s out more us t ext = record {
     rest_out = more ++ ext.rest_out;
     rest = t ∷ ext.rest;
@@ -250,7 +313,8 @@ module _ (plan : GrepPlan) (name : List ℕ) (shows : Show) (hs : Bool) (left : 
     tried_is = ext.tried_is ∙ append_assoc us (t ∷ []) ext.rest;
   }
 
-  barely : (s : Scan) (out : List ℕ) (us : List Tried) (t : Tried) → TextsBegin plan name shows hs s out (us ++ t ∷ []) → TextsBegin plan name shows hs s out us
+  barely : (s : Scan) (out : List ℕ) (us : List Tried) (t : Tried)
+      → TextsBegin plan name shows hs s out (us ++ t ∷ []) → TextsBegin plan name shows hs s out us
   barely s out us t ext = record {
     rest_out = ext.rest_out;
     rest = t ∷ ext.rest;
@@ -258,16 +322,19 @@ module _ (plan : GrepPlan) (name : List ℕ) (shows : Show) (hs : Bool) (left : 
     tried_is = ext.tried_is ∙ append_assoc us (t ∷ []) ext.rest;
   }
 
-  numbered-moved : (us : List Tried) (t : Tried) (vs : List Tried) → AreNumbered 1 (rows_of (us ++ t ∷ vs)) → AreNumbered 1 (rows_of ((us ++ t ∷ []) ++ vs))
+  numbered-moved : (us : List Tried) (t : Tried) (vs : List Tried) → AreNumbered 1 (rows_of (us ++ t ∷ vs))
+      → AreNumbered 1 (rows_of ((us ++ t ∷ []) ++ vs))
   numbered-moved us t vs numbered = subst (λ l. AreNumbered 1 (rows_of l)) (sym (append_assoc us (t ∷ []) vs)) numbered
 
   -- whatever lines follow
-  pub extends : (vs us : List Tried) (c : Course) → Goes plan shows left most us c → AreNumbered 1 (rows_of (us ++ vs)) → TextsBegin plan name shows hs (all_of (us ++ vs)) (out_of us) us
+  pub extends : (vs us : List Tried) (c : Course) → Goes plan shows left most us c
+      → AreNumbered 1 (rows_of (us ++ vs)) → TextsBegin plan name shows hs (all_of (us ++ vs)) (out_of us) us
   extends [] us c goes numbered =
       let is = ap (λ l. all_of l) (append-nil us) ∙ whole-is plan name shows hs left most finish us c goes in record {
         rest_out = [];
         rest = [];
-        out_is = ap (λ s. shown_out plan name shows hs s) is ∙ whole-out plan name shows hs us finish ∙ sym (append-nil (out_of us));
+        out_is = ap (λ s. shown_out plan name shows hs s) is ∙ whole-out plan name shows hs us finish
+            ∙ sym (append-nil (out_of us));
         tried_is = ap (λ s. s.tried) is ∙ sym (append-nil us);
       }
   extends (t ∷ vs) us c goes numbered =
@@ -277,25 +344,33 @@ module _ (plan : GrepPlan) (name : List ℕ) (shows : Show) (hs : Bool) (left : 
       (λ (last : LastError plan shows left most us t). barely all (out_of us) us t (row-broken us c t vs goes last))
       (λ (other : LastSelected plan shows left most us t ⊎ GoesOn plan shows left most us t).
       ⊎_elim
-      (λ (last : LastSelected plan shows left most us t). shorter all (out_of us) next us t (row-early us c t vs goes last numbered))
+      (λ (last : LastSelected plan shows left most us t). shorter all (out_of us) next us t
+      (row-early us c t vs goes last numbered))
       (λ (on : GoesOn plan shows left most us t).
       shorter all (out_of us) next us t
-      (row-goes us c t vs goes numbered (extends vs (us ++ t ∷ []) (course_after plan shows c t) (goes-on plan shows left most us c t goes (numbered-more us t vs numbered) on) (numbered-moved us t vs numbered))))
+      (row-goes us c t vs goes numbered (extends vs (us ++ t ∷ []) (course_after plan shows c t)
+      (goes-on plan shows left most us c t goes (numbered-more us t vs numbered) on)
+      (numbered-moved us t vs numbered))))
       other)
       (next-step plan shows left most us c t goes)
 
   -- a line more that hasn't the last match error
-  pub row-extends : (us : List Tried) (c : Course) (t : Tried) (vs : List Tried) → Goes plan shows left most us c → count has_error (us ++ t ∷ []) < left → AreNumbered 1 (rows_of (us ++ t ∷ vs))
-      → TextsBegin plan name shows hs (all_of (us ++ t ∷ vs)) (out_of us ++ next_out plan name shows hs left most finish us c t) (us ++ t ∷ [])
+  pub row-extends : (us : List Tried) (c : Course) (t : Tried) (vs : List Tried) → Goes plan shows left most us c
+      → count has_error (us ++ t ∷ []) < left → AreNumbered 1 (rows_of (us ++ t ∷ vs))
+      → TextsBegin plan name shows hs (all_of (us ++ t ∷ vs))
+      (out_of us ++ next_out plan name shows hs left most finish us c t) (us ++ t ∷ [])
   row-extends us c t vs goes few numbered = ⊎_elim
       (λ (last : LastError plan shows left most us t).
-      let one : count has_error (us ++ t ∷ []) ≡ count has_error us + 1 = count-more has_error us t ∙ ap (λ n. count has_error us + n) (count-one has_error t last.error) in
+      let one : count has_error (us ++ t ∷ []) ≡ count has_error us + 1 = count-more has_error us t
+      ∙ ap (λ n. count has_error us + n) (count-one has_error t last.error) in
       let is = last.left_is in
       absurd (omega arith))
       (λ (other : LastSelected plan shows left most us t ⊎ GoesOn plan shows left most us t).
       ⊎_elim
       (λ (last : LastSelected plan shows left most us t). row-early us c t vs goes last numbered)
       (λ (on : GoesOn plan shows left most us t).
-      row-goes us c t vs goes numbered (extends vs (us ++ t ∷ []) (course_after plan shows c t) (goes-on plan shows left most us c t goes (numbered-more us t vs numbered) on) (numbered-moved us t vs numbered)))
+      row-goes us c t vs goes numbered (extends vs (us ++ t ∷ []) (course_after plan shows c t)
+      (goes-on plan shows left most us c t goes (numbered-more us t vs numbered) on)
+      (numbered-moved us t vs numbered)))
       other)
       (next-step plan shows left most us c t goes)

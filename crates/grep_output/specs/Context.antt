@@ -1,5 +1,5 @@
--- Which lines are shown, and where groups of them are parted (pcre2grep, "OPTIONS", -A, -B and -C): rows and the selected ones →
--- shown lines.
+-- Which lines are shown, and where groups of them are parted (pcre2grep, "OPTIONS", -A, -B and -C): rows and the
+-- selected ones → shown lines.
 use Rattle.std.specs.Prelude.{ℕ, ◌+◌, ◌-◌, ◌==◌, Bool, ◌&&◌, ◌||◌, not, nat_le, nat_lt, List, map, filter}
 use Rattle.std.specs.List.{list_any}
 use Rattle.line_feed.specs.Rows.{Row}

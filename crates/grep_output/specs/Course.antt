@@ -1,5 +1,6 @@
 -- How a scan stands between two lines, and what one more line does: the definition's whole lists, one line at a time.
-use Rattle.std.specs.Prelude.{◌≡◌, ℕ, ◌+◌, ◌-◌, ◌==◌, Bool, true, false, ◌&&◌, ◌||◌, nat_lt, nat_le, if◌then◌else◌, List, [], ◌∷◌, ◌++◌, length, flat_map, codes, ⊤}
+use Rattle.std.specs.Prelude.{◌≡◌, ℕ, ◌+◌, ◌-◌, ◌==◌, Bool, true, false, ◌&&◌, ◌||◌, nat_lt, nat_le, if◌then◌else◌}
+use Rattle.std.specs.Prelude.{List, [], ◌∷◌, ◌++◌, length, flat_map, codes, ⊤}
 use Rattle.circular_buffer.specs.Buffer.{keep_last}
 use Rattle.line_feed.specs.Rows.{Row, At, End}
 use Rattle.grep_args.specs.declared.plan.GrepPlan.{GrepPlan}
@@ -12,8 +13,8 @@ use Rattle.grep_output.specs.Texts.{line_text, matches_text}
 use Rattle.tool_io.specs.Texts.{text_if}
 use Rattle.grep_output.specs.declared.state.State.{State}
 
--- how many lines were selected; the number of the last line that is shown as context of a selected one, 0 where none was
--- selected; and the last ones of the lines after that, which a selected line would show
+-- how many lines were selected; the number of the last line that is shown as context of a selected one, 0 where none
+-- was selected; and the last ones of the lines after that, which a selected line would show
 pub record Course : Type 0 where
   pub selected : ℕ
   pub context_to : ℕ

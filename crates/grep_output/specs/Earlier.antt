@@ -14,8 +14,8 @@ pub record EarlierRows : Type 0 where
 abbrev pub IsShort : ℕ → Row → Type 0
 IsShort longest row = length row.bytes + length row.newline ≤ longest + 3
 
--- The last ones of the buffer count. It has no room for more than are kept, and all of them are short, so it holds at most
--- limit * (longest + 3) bytes.
+-- The last ones of the buffer count. It has no room for more than are kept, and all of them are short, so it holds at
+-- most limit * (longest + 3) bytes.
 pub record IsKept (limit longest count : ℕ) (buffer : Buffer Row) : Type 0 where
   pub few : count ≤ limit
   pub there : count ≤ length buffer.items

@@ -1,6 +1,7 @@
--- What is written of one input after those before it: input → rows → tried lines → scan → shown lines → text and messages, and
--- what is left to the next input.
-use Rattle.std.specs.Prelude.{ℕ, ◌+◌, Bool, true, false, ◌||◌, not, nat_lt, List, [], ◌++◌, length, flat_map, codes, decimal}
+-- What is written of one input after those before it: input → rows → tried lines → scan → shown lines → text and
+-- messages, and what is left to the next input.
+use Rattle.std.specs.Prelude.{ℕ, ◌+◌, Bool, true, false, ◌||◌, not, nat_lt, List, [], ◌++◌, length, flat_map, codes}
+use Rattle.std.specs.Prelude.{decimal}
 use Rattle.line_feed.specs.Rows.{Row, Rows, Input}
 use Rattle.grep_args.specs.declared.plan.GrepPlan.{GrepPlan}
 use Rattle.pat_tree.specs.Pattern.{Pattern}
@@ -23,8 +24,8 @@ use Rattle.grep_output.specs.Messages.{messages}
 abbrev pub first_state : State
 first_state = record { errors = 0; total = 0; has_shown = false }
 
--- what is written of an input, the number of its selected lines, how its scan ends, the lines that it went through, and what it
--- leaves
+-- what is written of an input, the number of its selected lines, how its scan ends, the lines that it went through, and
+-- what it leaves
 pub record Written : Type 0 where
   pub out : List ℕ
   pub err : List ℕ

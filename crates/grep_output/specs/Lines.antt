@@ -1,4 +1,5 @@
--- The lines of an input, and whether it is binary (pcre2grep, "Newlines" and "OPTIONS", --binary-files): input → rows, treatment.
+-- The lines of an input, and whether it is binary (pcre2grep, "Newlines" and "OPTIONS", --binary-files): input → rows,
+-- treatment.
 use Rattle.std.specs.Prelude.{Bool, true, false, ◌&&◌, not, take, nat_eq}
 use Rattle.std.specs.List.{list_any}
 use Rattle.pat_tree.specs.declared.options.Newline.{Newline}

@@ -1,5 +1,5 @@
--- Where a write to the output is refused: lines → what is written of the first of them → the line at which it was refused → how much
--- past it was taken.
+-- Where a write to the output is refused: lines → what is written of the first of them → the line at which it was
+-- refused → how much past it was taken.
 use Rattle.std.specs.Prelude.{◌≡◌, ℕ, ◌≤◌, ◌<◌, Bool, true, false, List, ◌++◌, length, take, Some, Result, Ok, Err, ⊤}
 use Rattle.std.specs.Io.KnownBytes.{Appends}
 use Rattle.pcre_io.specs.Told.{Told, Kept}

@@ -1,5 +1,6 @@
 -- How far an input is scanned: rows → tried lines → those up to where the scan ends.
-use Rattle.std.specs.Prelude.{ℕ, suc, ◌+◌, ◌-◌, ◌<◌, ◌==◌, Bool, true, false, nat_lt, nat_le, if◌then◌else◌, List, [], ◌∷◌, map, take, filter, length, Option, Some, None, option_map, ⊤}
+use Rattle.std.specs.Prelude.{ℕ, suc, ◌+◌, ◌-◌, ◌<◌, ◌==◌, Bool, true, false, nat_lt, nat_le, if◌then◌else◌, List}
+use Rattle.std.specs.Prelude.{[], ◌∷◌, map, take, filter, length, Option, Some, None, option_map, ⊤}
 use Rattle.line_feed.specs.Rows.{Row, Rows, Finish}
 use Rattle.grep_args.specs.declared.plan.GrepPlan.{GrepPlan}
 use Rattle.pat_tree.specs.Pattern.{Pattern}

@@ -1,5 +1,7 @@
--- How lines, parts of them and places are written (pcre2grep, "OPTIONS"): shown lines, or the matches of selected ones → bytes.
-use Rattle.std.specs.Prelude.{ℕ, ◌-◌, ◌+◌, ◌==◌, Bool, true, false, ◌&&◌, ◌||◌, not, if◌then◌else◌, List, [], ◌∷◌, ◌++◌, map, filter, flat_map, codes, decimal, Option, Some, None, Ok, Err, slice_range}
+-- How lines, parts of them and places are written (pcre2grep, "OPTIONS"): shown lines, or the matches of selected ones
+-- → bytes.
+use Rattle.std.specs.Prelude.{ℕ, ◌-◌, ◌+◌, ◌==◌, Bool, true, false, ◌&&◌, ◌||◌, not, if◌then◌else◌, List, [], ◌∷◌}
+use Rattle.std.specs.Prelude.{◌++◌, map, filter, flat_map, codes, decimal, Option, Some, None, Ok, Err, slice_range}
 use Rattle.frame_store.specs.declared.registers.Span.{Span}
 use Rattle.frame_store.specs.Captures.{capture}
 use Rattle.ordered_search.specs.PlaceAnswer.{Outcome}
@@ -40,7 +42,8 @@ module _ (plan : GrepPlan) (name : List ℕ) where
   abbrev pub lines_text : Bool → List Shown → List ℕ
   lines_text is_later [] = []
   lines_text is_later (s ∷ more) =
-      text_if (is_later && (s.begins_group && parts_groups plan)) (line (codes "--")) ++ line_text s ++ lines_text true more
+      text_if (is_later && (s.begins_group && parts_groups plan)) (line (codes "--")) ++ line_text s ++ lines_text
+      true more
 
 -- Matched parts.
 

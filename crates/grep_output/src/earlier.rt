@@ -1,5 +1,6 @@
 //! The lines before a selected one.
-ghost use Rattle.std.specs.Prelude.{◌≡◌, ◌<◌, ◌≤◌, ◌⊎◌, ◌==◌, ◌++◌, ◌∷◌, [], length, drop, if◌then◌else◌, OnOk, IfOk, slice_get, option_map};
+ghost use Rattle.std.specs.Prelude.{◌≡◌, ◌<◌, ◌≤◌, ◌⊎◌, ◌==◌, ◌++◌, ◌∷◌, [], length, drop, if◌then◌else◌, OnOk, IfOk};
+ghost use Rattle.std.specs.Prelude.{slice_get, option_map};
 ghost use Rattle.circular_buffer.specs.Buffer.{keep_last, buffer};
 ghost use Rattle.line_feed.specs.Lines.{row_of};
 ghost use Rattle.grep_output.specs.Earlier.{IsShort};

@@ -1,5 +1,6 @@
 -- Which names are allowed (pcre2grep, "OPTIONS": --include, --exclude, --include-dir and --exclude-dir).
-use Rattle.std.specs.Prelude.{◌≡◌, ⊤, ℕ, ◌+◌, nat_lt, Bool, true, false, ◌&&◌, ◌||◌, not, List, [], ◌∷◌, ◌++◌, length, map, Result, Ok, Err}
+use Rattle.std.specs.Prelude.{◌≡◌, ⊤, ℕ, ◌+◌, nat_lt, Bool, true, false, ◌&&◌, ◌||◌, not, List, [], ◌∷◌, ◌++◌}
+use Rattle.std.specs.Prelude.{length, map, Result, Ok, Err}
 use Rattle.std.specs.List.{list_any}
 use Rattle.pat_tree.specs.declared.options.TheConstants.Options as plain
 use Rattle.pat_tree.specs.declared.options.TheConstants.MatchOptions as plain_match

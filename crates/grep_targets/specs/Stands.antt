@@ -1,6 +1,7 @@
--- What words may stand for over any set of files, told or not: the targets that some answers of a set to what it is asked give
--- (pcre2grep, "DESCRIPTION" and "OPTIONS", -r).
-use Rattle.std.specs.Prelude.{◌≡◌, ℕ, zero, suc, Bool, true, false, List, [], ◌∷◌, ◌++◌, codes, bytes_eq, Option, None, Some}
+-- What words may stand for over any set of files, told or not: the targets that some answers of a set to what it is
+-- asked give (pcre2grep, "DESCRIPTION" and "OPTIONS", -r).
+use Rattle.std.specs.Prelude.{◌≡◌, ℕ, zero, suc, Bool, true, false, List, [], ◌∷◌, ◌++◌, codes, bytes_eq, Option}
+use Rattle.std.specs.Prelude.{None, Some}
 use Rattle.pcre_io.specs.declared.entries.Kind.{Kind}
 use Rattle.pcre_io.specs.declared.entries.Kind.TheVariants as kind
 use Rattle.pcre_io.specs.declared.entries.DirEntry.{DirEntry}

@@ -1,5 +1,6 @@
 -- Which files a list of words stands for (pcre2grep, "DESCRIPTION" and "OPTIONS": -r, --include and the others).
-use Rattle.std.specs.Prelude.{ℕ, zero, suc, Bool, true, false, if◌then◌else◌, List, [], ◌∷◌, ◌++◌, flat_map, codes, bytes_eq, Option, None, Some}
+use Rattle.std.specs.Prelude.{ℕ, zero, suc, Bool, true, false, if◌then◌else◌, List, [], ◌∷◌, ◌++◌, flat_map, codes}
+use Rattle.std.specs.Prelude.{bytes_eq, Option, None, Some}
 use Rattle.pcre_io.specs.Files.{Contents, kind_of, listed_entries}
 use Rattle.pcre_io.specs.declared.entries.Kind.{Kind}
 use Rattle.pcre_io.specs.declared.entries.Kind.TheVariants as kind
@@ -51,8 +52,10 @@ as_item path is_directory = record { path = path; is_directory = is_directory }
 -- the targets of a path by its kind; what is neither a file nor a directory isn't judged by its name
 abbrev pub kind_targets : Filter → Contents → List ℕ → Option Kind → List Target
 kind_targets filter set path None = NoOpen path ∷ []
-kind_targets filter set path (Some kind.File) = item_targets filter (directory_targets filter set word_levels) (as_item path false)
-kind_targets filter set path (Some kind.Dir) = item_targets filter (directory_targets filter set word_levels) (as_item path true)
+kind_targets filter set path (Some kind.File) = item_targets filter (directory_targets filter set word_levels)
+    (as_item path false)
+kind_targets filter set path (Some kind.Dir) = item_targets filter (directory_targets filter set word_levels)
+    (as_item path true)
 kind_targets filter set path (Some kind.Other) = File path ∷ []
 kind_targets filter set path (Some kind.Unnamed) = File path ∷ []
 

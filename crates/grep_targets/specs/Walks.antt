@@ -1,5 +1,6 @@
 -- What the calls of a walk tell, and what it has yet to look at.
-use Rattle.std.specs.Prelude.{◌≡◌, ℕ, zero, suc, ◌*◌, ◌+◌, ◌<◌, Bool, true, false, IsTrue, List, ◌++◌, flat_map, reverse, string_bytes, Option, IfSome}
+use Rattle.std.specs.Prelude.{◌≡◌, ℕ, zero, suc, ◌*◌, ◌+◌, ◌<◌, Bool, true, false, IsTrue, List, ◌++◌, flat_map}
+use Rattle.std.specs.Prelude.{reverse, string_bytes, Option, IfSome}
 use Rattle.std.specs.List.{list_any, sum_by}
 use Rattle.pcre_io.specs.Causes.{Rose}
 use Rattle.pcre_io.specs.Files.{Contents}
@@ -70,8 +71,8 @@ pub record Walk : Type 0 where
 abbrev pub walking : List PendingParts → List Target → Walk
 walking stack told = record { stack = stack; told = told }
 
--- A step of a walk: what these targets and those of the stack were is told now or stands on the stack, and the stack has
--- grown by less than this weight.
+-- A step of a walk: what these targets and those of the stack were is told now or stands on the stack, and the stack
+-- has grown by less than this weight.
 pub record Steps (filter : Filter) (contents : Option Contents) (wanted : Contents → List Target) (heavy : ℕ)
     (old new : Walk) : Type 0 where
   pub exact : IfSome contents (λ set.
@@ -88,8 +89,8 @@ AreOfPending filter p list = AreOfItem filter (AreOfDirectory filter p.levels) p
 abbrev pub AreOfStack : Filter → List PendingParts → List Target → Type 0
 AreOfStack filter stack list = AreOfEach (AreOfPending filter) (reverse stack) list
 
--- A step of a walk: whatever the stack stands for now, it follows what was told by such targets and by what the stack stood
--- for.
+-- A step of a walk: whatever the stack stands for now, it follows what was told by such targets and by what the stack
+-- stood for.
 abbrev pub Goes : Filter → (List Target → Type 0) → Walk → Walk → Type 0
 Goes filter Are old new =
     (rest : List Target) → AreOfStack filter new.stack rest

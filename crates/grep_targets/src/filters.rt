@@ -3,7 +3,8 @@ ghost use Rattle.std.specs.Prelude.{◌≡◌, ◌<◌, ◌∷◌, ◌++◌, [],
 ghost use Rattle.pat_tree.specs.declared.options.TheConstants.MatchOptions as plain_match;
 ghost use Rattle.pat_tree.specs.Pattern.{pattern_of};
 ghost use Rattle.pcre2_api.specs.Answers.{pattern_answer};
-ghost use Rattle.grep_targets.specs.Filters.{allows, choice_of, compiled_from, filter_in, filter_of, is_found, is_match, matches_one, patterns_in, IsFilterError};
+ghost use Rattle.grep_targets.specs.Filters.{allows, choice_of, compiled_from, filter_in, filter_of, is_found};
+ghost use Rattle.grep_targets.specs.Filters.{is_match, matches_one, patterns_in, IsFilterError};
 ghost use Rattle.grep_targets.specs.Paths.{name_of};
 ghost use Rattle.grep_targets.specs.Targets.{allows_file, allows_directory};
 

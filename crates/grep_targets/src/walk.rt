@@ -3,9 +3,11 @@ ghost use Rattle.std.specs.Prelude.{◌≡◌, ◌≤◌, ◌∷◌, ◌++◌, [
 ghost use Rattle.pcre_io.specs.Files.{Contents};
 ghost use Rattle.grep_targets.specs.Filters.{Filter, filter_in};
 ghost use Rattle.grep_targets.specs.Paths.{item_parts};
-ghost use Rattle.grep_targets.specs.Targets.{as_item, directory_targets, file_targets, item_targets, listed_targets, unnamed_targets};
+ghost use Rattle.grep_targets.specs.Targets.{as_item, directory_targets, file_targets, item_targets, listed_targets};
+ghost use Rattle.grep_targets.specs.Targets.{unnamed_targets};
 ghost use Rattle.grep_targets.specs.Stands.{AreOfDirectory, AreOfItem, AreOfListed};
-ghost use Rattle.grep_targets.specs.Walks.{AreOfPending, at_levels, has_failed, pending_parts, pending_targets, weight, Goes, Grows, GrowsBy, HasCauses, Steps, walking};
+ghost use Rattle.grep_targets.specs.Walks.{AreOfPending, at_levels, has_failed, pending_parts, pending_targets};
+ghost use Rattle.grep_targets.specs.Walks.{weight, Goes, Grows, GrowsBy, HasCauses, Steps, walking};
 
 use crate::filters::NameFilter;
 use crate::items::{Item, has_unnamed, items_in};

@@ -126,8 +126,9 @@ fn take_words<F: FileSet>(
 /// without words; another word is a file where its name is allowed; under `-r` a directory is gone through.
 ///
 /// Over a set of files that tells what it holds the list is known. Over any set the words stand for their targets in
-/// order: without `-r` these are known, and with it they are those that some answers of a set give. A name that can't be
-/// opened, or a directory that can't be listed, is in the list only where a fault was counted. Memory may be wanting.
+/// order: without `-r` these are known, and with it they are those that some answers of a set give. A name that can't
+/// be opened, or a directory that can't be listed, is in the list only where a fault was counted. Memory may be
+/// wanting.
 pub fn targets<F: FileSet>(
     alloc: Global,
     filter: &NameFilter,

@@ -1,5 +1,7 @@
 -- Lines before the first place at which a match of a filter's expression begins.
-use Rattle.std.proofs.Common.{◌≡◌, ◌≢◌, ◌∙◌, ℕ, zero, suc, ◌+◌, ◌-◌, ◌<◌, ◌≤◌, Bool, List, [], ◌∷◌, ◌++◌, length, take, Option, Some, None, Ok, option_map, IsSome, ◌⊎◌, inl, inr, refl, sym, ap, subst, arith, length-append}
+use Rattle.std.proofs.Common.{◌≡◌, ◌≢◌, ◌∙◌, ℕ, zero, suc, ◌+◌, ◌-◌, ◌<◌, ◌≤◌, Bool, List, [], ◌∷◌, ◌++◌, length}
+use Rattle.std.proofs.Common.{take, Option, Some, None, Ok, option_map, IsSome, ◌⊎◌, inl, inr, refl, sym, ap, subst}
+use Rattle.std.proofs.Common.{arith, length-append}
 use Rattle.std.specs.Prelude.{slice_index, slice_get, IsTrue, IsUtf8}
 use Rattle.std.proofs.lemmas.List.{get_or_append_left, get_or-append-add}
 use Rattle.std.proofs.lemmas.Option.{none-some, same_Some, slice_get-get_or}
@@ -24,7 +26,8 @@ use Rattle.grep_watch.proofs.Cutting.{valid-before, valid-behind}
 
 -- What a search answers.
 
-span_of : (found : Option Match) (s : ℕ × ℕ) → Some s ≡ option_map span found → (m : Match) × (found ≡ Some m) × (s.0 ≡ m.start)
+span_of : (found : Option Match) (s : ℕ × ℕ) → Some s ≡ option_map span found
+    → (m : Match) × (found ≡ Some m) × (s.0 ≡ m.start)
 span_of None s e = absurd (none-some s (sym e))
 span_of (Some m) s e = (m, refl, ap (λ (t : ℕ × ℕ). t.0) (same_Some s (span m) e))
 
@@ -51,13 +54,15 @@ module _ (re : Re) (held : List ℕ) where
   begins-nowhere e = record {
     within = omega arith;
     none = λ i j before is.
-        let there = value_of_IsSome (find re held 0) (find_complete re held 0 i j (omega arith) (omega (arith, before)) is) in
+        let there = value_of_IsSome (find re held 0)
+        (find_complete re held 0 i j (omega arith) (omega (arith, before)) is) in
         none-some there.0 (sym (no_span (find re held 0) e) ∙ there.1);
   }
 
 -- A line whose LF stands before that place.
 
-ends-front : (before rest : List ℕ) → EndsInLf before → (byte_before (before ++ rest) (length before) ≡ None) ⊎ (byte_before (before ++ rest) (length before) ≡ Some 10)
+ends-front : (before rest : List ℕ) → EndsInLf before
+    → (byte_before (before ++ rest) (length before) ≡ None) ⊎ (byte_before (before ++ rest) (length before) ≡ Some 10)
 ends-front [] rest ends = inl (byte_before-zero rest)
 ends-front (b ∷ before) rest ends =
     let front = b ∷ before in
@@ -65,7 +70,9 @@ ends-front (b ∷ before) rest ends =
     let long = length-append front rest in
     let at : last + 1 ≡ length front = omega arith in
     let byte = get_or_append_left front rest 0 last (omega arith) ∙ ends last at in
-    inr (subst (λ n. byte_before (front ++ rest) n ≡ Some 10) at (byte_before-add-one (front ++ rest) last ∙ slice_get-get_or (front ++ rest) last 0 (omega (arith, long)) ∙ ap Some byte))
+    inr (subst (λ n. byte_before (front ++ rest) n ≡ Some 10) at
+    (byte_before-add-one (front ++ rest) last ∙ slice_get-get_or (front ++ rest) last 0 (omega (arith, long))
+    ∙ ap Some byte))
 
 module _ (before line behind : List ℕ) where
   abbrev text : List ℕ
@@ -81,32 +88,43 @@ module _ (before line behind : List ℕ) where
   is-line ends =
       let long = text-long in
       let at : length line + 0 ≡ length line = omega arith in
-      let byte = get_or-append-add before (line ++ (10 ∷ behind)) (length line) 0 ∙ ap (λ n. slice_index (line ++ (10 ∷ behind)) n) (sym at) ∙ get_or-append-add line (10 ∷ behind) 0 0 in record {
+      let byte = get_or-append-add before (line ++ (10 ∷ behind)) (length line) 0
+      ∙ ap (λ n. slice_index (line ++ (10 ∷ behind)) n) (sym at) ∙ get_or-append-add line (10 ∷ behind) 0 0 in
+      record {
         front = ends-front before (line ++ (10 ∷ behind)) ends;
         back = inr (slice_get-get_or text (length before + length line) 0 (omega (arith, long)) ∙ ap Some byte);
       }
 
-  line-small : ((k : ℕ) → k < length text → slice_index text k < 256) → (k : ℕ) → k < length line → slice_index line k < 256
+  line-small : ((k : ℕ) → k < length text → slice_index text k < 256) → (k : ℕ) → k < length line
+      → slice_index line k < 256
   line-small are k l =
       let long = text-long in
-      subst (λ b. b < 256) (get_or-append-add before (line ++ (10 ∷ behind)) k 0 ∙ get_or_append_left line (10 ∷ behind) 0 k l) (are (length before + k) (omega (arith, l, long)))
+      subst (λ b. b < 256) (get_or-append-add before (line ++ (10 ∷ behind)) k 0
+      ∙ get_or_append_left line (10 ∷ behind) 0 k l) (are (length before + k) (omega (arith, l, long)))
 
-line-valid : (before line behind : List ℕ) (n : ℕ) → EndsInLf before → length before + length line < n → IsUtf8 (take n (before ++ (line ++ (10 ∷ behind)))) → IsUtf8 line
-line-valid [] line behind n ends low valid = valid-before line (10 ∷ behind) n (omega (arith, low)) (omega arith) (omega arith) valid
+line-valid : (before line behind : List ℕ) (n : ℕ) → EndsInLf before → length before + length line < n
+    → IsUtf8 (take n (before ++ (line ++ (10 ∷ behind)))) → IsUtf8 line
+line-valid [] line behind n ends low valid = valid-before line (10 ∷ behind) n (omega (arith, low)) (omega arith)
+    (omega arith) valid
 line-valid (b ∷ before) line behind n ends low valid =
     let front = b ∷ before in
     let last : length before + 1 ≡ length front = omega arith in
     let at : length front - 1 ≡ length before = omega arith in
-    let ascii : slice_index front (length front - 1) < 128 = subst (λ x. x < 128) (sym (ap (λ k. slice_index front k) at ∙ ends (length before) last)) (omega arith) in
-    valid-before line (10 ∷ behind) (n - length front) (omega (arith, low)) (omega arith) (omega arith) (valid-behind front (line ++ (10 ∷ behind)) n (omega arith, ascii) valid)
+    let ascii : slice_index front (length front - 1) < 128 =
+    subst (λ x. x < 128) (sym (ap (λ k. slice_index front k) at ∙ ends (length before) last)) (omega arith) in
+    valid-before line (10 ∷ behind) (n - length front) (omega (arith, low)) (omega arith) (omega arith)
+    (valid-behind front (line ++ (10 ∷ behind)) n (omega arith, ascii) valid)
 
-pub clear-found : (plan : GrepPlan) (patterns : List Pattern) (re : Re) (most : ℕ) (utf : Bool) (held : List ℕ) (at n : ℕ) → IsWiderBy plan patterns re most utf
-    → ((k : ℕ) → k < length held → slice_index held k < 256) → Begins re held at → n ≤ at → n ≤ length held - 1 → IsChecked utf (take n held) → AreClear plan patterns most held n
+pub clear-found : (plan : GrepPlan) (patterns : List Pattern) (re : Re) (most : ℕ) (utf : Bool) (held : List ℕ)
+    (at n : ℕ) → IsWiderBy plan patterns re most utf
+    → ((k : ℕ) → k < length held → slice_index held k < 256) → Begins re held at → n ≤ at → n ≤ length held - 1
+    → IsChecked utf (take n held) → AreClear plan patterns most held n
 clear-found plan patterns re most utf held at n wider are begins up within checked = record {
   within = within;
   none = λ before line behind is ends plain low short. wider before line (10 ∷ behind) (record {
     short = short;
-    small = line-small before line behind (subst (λ (l : List ℕ). (k : ℕ) → k < length l → slice_index l k < 256) is are);
+    small = line-small before line behind (subst (λ (l : List ℕ). (k : ℕ) → k < length l → slice_index l k < 256) is
+        are);
     whole = plain;
     is_line = is-line before line behind ends;
     checked = λ on. line-valid before line behind n ends low (subst (λ l. IsUtf8 (take n l)) is (checked on));
@@ -115,7 +133,9 @@ clear-found plan patterns re most utf held at n wider are begins up within check
 }
 
 -- A filter goes on as it was.
-pub still-filters : (plan : GrepPlan) (patterns : List Pattern) (f g : Filter) → IsSame f g → Filters plan patterns f → Filters plan patterns g
+pub still-filters : (plan : GrepPlan) (patterns : List Pattern) (f g : Filter) → IsSame f g → Filters plan patterns f
+    → Filters plan patterns g
 still-filters plan patterns f g same filters =
     subst (λ hir. IsWiderBy plan patterns (meaning hir) g.most g.utf) (sym same.hir)
-    (subst (λ n. IsWiderBy plan patterns (meaning f.searcher.program.now.hir) n g.utf) (sym same.most) (subst (λ u. IsWiderBy plan patterns (meaning f.searcher.program.now.hir) f.most u) (sym same.utf) filters))
+    (subst (λ n. IsWiderBy plan patterns (meaning f.searcher.program.now.hir) n g.utf) (sym same.most)
+    (subst (λ u. IsWiderBy plan patterns (meaning f.searcher.program.now.hir) f.most u) (sym same.utf) filters))

@@ -1,5 +1,6 @@
 -- Lines that are passed over without a search.
-use Rattle.std.specs.Prelude.{◌≡◌, ◌≢◌, ℕ, ◌+◌, ◌-◌, ◌<◌, ◌≤◌, Bool, List, [], ◌∷◌, ◌++◌, length, take, drop, slice_index, None, Some, Ok, ⊤}
+use Rattle.std.specs.Prelude.{◌≡◌, ◌≢◌, ℕ, ◌+◌, ◌-◌, ◌<◌, ◌≤◌, Bool, List, [], ◌∷◌, ◌++◌, length, take, drop}
+use Rattle.std.specs.Prelude.{slice_index, None, Some, Ok, ⊤}
 use Rattle.std.specs.List.{All}
 use Rattle.byte_lanes.specs.declared.line_end.EndKind.{EndKind}
 use Rattle.byte_lanes.specs.declared.line_end.EndKind.TheVariants.{Cr, Lf, CrLf, AnyCrLf, Any, AnyUtf, Nul}
@@ -52,8 +53,8 @@ pub record AreClear (plan : GrepPlan) (patterns : List Pattern) (longest : ℕ) 
 abbrev pub with_quiet : Watch → ℕ → Watch
 with_quiet w n = record w { quiet = n }
 
--- The needed text is that of the patterns, and what is known holds of the bytes that a feed holds: where a text is needed,
--- that it doesn't stand in the quiet bytes; else that lines in them have no match.
+-- The needed text is that of the patterns, and what is known holds of the bytes that a feed holds: where a text is
+-- needed, that it doesn't stand in the quiet bytes; else that lines in them have no match.
 pub record Watches (plan : GrepPlan) (patterns : List Pattern) (w : Watch) (held : List ℕ)
     : Type 0 where
   pub needed : (some : Needed) → w.needed ≡ Some some → AreNeeded plan patterns some

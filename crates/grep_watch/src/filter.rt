@@ -23,8 +23,8 @@ const TABLE: usize = 1 << 22;
 // A filter that tells only of lines shorter than this isn't made where a text is known that every match takes.
 const SHORT: u32 = 2_047;
 
-// After so many looks in a row that passed fewer bytes than `NEAR` it rests for so many: where nearly each line may have a
-// match, a look at each costs more than it saves.
+// After so many looks in a row that passed fewer bytes than `NEAR` it rests for so many: where nearly each line may
+// have a match, a look at each costs more than it saves.
 const TRIES: u32 = 16;
 
 const NEAR: usize = 64;
@@ -56,8 +56,8 @@ fn is_worth(wider: &Wider, watch: &Watch) -> bool {
 }
 
 impl Sieve {
-    /// The sieve of a plan's patterns, where their lines end in LF. None where no such expression is known, where it is too
-    /// large, where the text that `watch` looks for tells of longer lines, or for want of memory.
+    /// The sieve of a plan's patterns, where their lines end in LF. None where no such expression is known, where it is
+    /// too large, where the text that `watch` looks for tells of longer lines, or for want of memory.
     pub fn new(alloc: Global, plan: &GrepPlan, patterns: &Patterns, watch: &Watch) -> Option<Sieve>
         ensures { IfSome result (Sifts plan.now (patterns_in patterns.now)) }
     {
@@ -154,8 +154,8 @@ impl<'p> Filter<'p> {
         }
     }
 
-    /// Looks for the first line that may have a match, where none is known to have none. `watch` then knows that the lines
-    /// before it have none.
+    /// Looks for the first line that may have a match, where none is known to have none. `watch` then knows that the
+    /// lines before it have none.
     pub fn look(&mut self, watch: &mut Watch, feed: &LineFeed)
         ensures watch { (plan : GrepPlan) (patterns : List Pattern)
             → Filters plan patterns self.old → Watches plan patterns watch.old feed.now.held

@@ -1,5 +1,6 @@
 //! Lines that are passed over without a search.
-ghost use Rattle.std.specs.Prelude.{◌≡◌, ◌≢◌, ◌++◌, ◌∷◌, ◌-◌, ℕ, ◌<◌, ◌≤◌, List, [], length, take, IsTrue, IsUtf8, None, Some, Ok, slice_index, MatchOption};
+ghost use Rattle.std.specs.Prelude.{◌≡◌, ◌≢◌, ◌++◌, ◌∷◌, ◌-◌, ℕ, ◌<◌, ◌≤◌, List, [], length, take, IsTrue, IsUtf8};
+ghost use Rattle.std.specs.Prelude.{None, Some, Ok, slice_index, MatchOption};
 ghost use Rattle.uni_text.specs.Characters.{IsChecked};
 ghost use Rattle.pat_needs.specs.Texts.{sets_of};
 ghost use Rattle.pat_tree.specs.Pattern.{Pattern};
@@ -7,7 +8,8 @@ ghost use Rattle.grep_args.specs.declared.plan.GrepPlan.{GrepPlan};
 ghost use Rattle.grep_match.specs.declared.unsearched.Needed.{Needed};
 ghost use Rattle.grep_match.specs.Compiled.{patterns_in};
 ghost use Rattle.grep_match.specs.Matches.{matches};
-ghost use Rattle.grep_watch.specs.Watched.{IsQuiet, Watches, PassesOver, HasQuietRun, ReachesQuiet, HasAsciiNewlines, EndsInAscii, with_quiet};
+ghost use Rattle.grep_watch.specs.Watched.{IsQuiet, Watches, PassesOver, HasQuietRun, ReachesQuiet, HasAsciiNewlines};
+ghost use Rattle.grep_watch.specs.Watched.{EndsInAscii, with_quiet};
 ghost use Rattle.line_feed.specs.declared.phase.Phase.TheVariants.{Closed};
 ghost use Rattle.byte_lanes.specs.declared.line_end.EndKind.TheVariants.{Lf};
 
@@ -24,8 +26,8 @@ pub struct Watch {
     pub needed: Option<Needed>,
     /// So many bytes a line may have that a filter has passed.
     pub longest: usize,
-    /// In so many first bytes the text stands nowhere, as far as is known, and where lines must be UTF-8 these are. Under
-    /// a filter lines whose LF is among them have no match, unless they are too long.
+    /// In so many first bytes the text stands nowhere, as far as is known, and where lines must be UTF-8 these are.
+    /// Under a filter lines whose LF is among them have no match, unless they are too long.
     pub quiet: usize,
 }
 
@@ -258,8 +260,8 @@ impl Watch {
         }
     }
 
-    // Whether what is known stays known behind the line: a character begins there, where lines must be UTF-8, and under a
-    // filter a line.
+    // Whether what is known stays known behind the line: a character begins there, where lines must be UTF-8, and under
+    // a filter a line.
     fn is_whole(&self, line: &Line<'_>) -> bool
         ensures text { IsTrue result → (some : Needed) → self.now.needed ≡ Some some
             → IsTrue some.utf → EndsInAscii line.now.end.now }

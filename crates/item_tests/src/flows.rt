@@ -1,6 +1,7 @@
 //! What follows a part of a tree, and the order of the parts.
 ghost use Rattle.std.specs.Prelude.{◌≡◌, ◌≤◌, ◌<◌, ◌+◌, ◌∷◌, ◌++◌, [], All, IfOk, OnOk, length};
-ghost use Rattle.pat_tree.specs.Rules.{kids_of, asserted_by, classes_of, verb_names_of, numbers_of, IsNamed, IsOrdered, IsDefine};
+ghost use Rattle.pat_tree.specs.Rules.{kids_of, asserted_by, classes_of, verb_names_of, numbers_of, IsNamed};
+ghost use Rattle.pat_tree.specs.Rules.{IsOrdered, IsDefine};
 ghost use Rattle.pat_tree.specs.Growing.{loose};
 
 use node_flow::{Branches, Flow, Ranks};

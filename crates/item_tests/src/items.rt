@@ -53,8 +53,8 @@ fn newline_sequences_are_taken_whole(rt: HostRuntime) {
     }
 }
 
-/// A subject, what ends its lines, whether neither of its ends is one of a line, an assertion, and its answer at each place.
-/// The start given is 2.
+/// A subject, what ends its lines, whether neither of its ends is one of a line, an assertion, and its answer at each
+/// place. The start given is 2.
 type Anchors = (&'static [u8], Newline, bool, AnchorKind, &'static [u8]);
 
 fn anchors(rt: &impl Abort, row: &Anchors) {
@@ -249,8 +249,8 @@ pub(crate) fn fits(table: &ClassTable, item: Item) -> bool
     }
 }
 
-/// What ends a line, and an item; and at each place what the item takes, how many characters its run has, of a few at most,
-/// and `*` where the run reaches the end.
+/// What ends a line, and an item; and at each place what the item takes, how many characters its run has, of a few at
+/// most, and `*` where the run reaches the end.
 pub(crate) type ItemRow = (
     Newline,
     Item,

@@ -11,8 +11,8 @@ pub(crate) fn taken(taken: Taken, at: usize) -> u8 {
     }
 }
 
-/// What an assertion answers: `+` where it holds, `*` where it also reaches the end, `E` where it reaches the end alone,
-/// `.` for neither.
+/// What an assertion answers: `+` where it holds, `*` where it also reaches the end, `E` where it reaches the end
+/// alone, `.` for neither.
 pub(crate) fn held(held: Held) -> u8 {
     match (held.holds, held.at_end) {
         (true, true) => b'*',

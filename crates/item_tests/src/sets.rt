@@ -107,8 +107,8 @@ fn character(n: u32) -> u32 {
     }
 }
 
-// Whether the first class of a table takes each character, by a counter of its own: where they are listed, or under `others`
-// where they aren't.
+// Whether the first class of a table takes each character, by a counter of its own: where they are listed, or under
+// `others` where they aren't.
 fn asks<L: Ledger>(rt: &impl Abort, table: &ClassTable, ranges: Ranges, others: bool, blank: Blank)
     requires name { blank.name ≡ L.name }
     requires parts { blank.parts ≡ L.parts }
@@ -348,7 +348,8 @@ fn takes_part(alloc: Global, part: Part, caseless: bool, utf: bool, c: u32) -> R
     Ok(takes::<Brand>(&table, c, Blank::new(1)))
 }
 
-// Whether the first class of a table takes the characters at the edges of a set that are in it, or under `not` the others.
+// Whether the first class of a table takes the characters at the edges of a set that are in it, or under `not` the
+// others.
 fn asks_edges<L: Ledger>(
     rt: &impl Abort,
     table: &ClassTable,
@@ -405,8 +406,8 @@ const FOLDS: &[[u32; 3]] = &[
     [0x1C4, 0x1C5, 0x1C6],
 ];
 
-// In UTF and in any case one of three takes each other. In its own case it takes itself alone, and without UTF what is ASCII
-// beside.
+// In UTF and in any case one of three takes each other. In its own case it takes itself alone, and without UTF what is
+// ASCII beside.
 fn takes_folded(alloc: Global, one: u32, other: u32) -> Result<bool, Fail> {
     let part = Part::Range { from: one, to: one };
     let same = one == other;
@@ -434,8 +435,8 @@ fn each_of_three_folds_takes_the_others(rt: HostRuntime) -> Result<(), Fail> {
 
 const LU: SetName = SetName::Property(13);
 
-// A set, a character, and whether the set has it in its own case and in any case. They are \p{Lu} and [[:upper:]], by perl's
-// \p. 13 is the number of Lu.
+// A set, a character, and whether the set has it in its own case and in any case. They are \p{Lu} and [[:upper:]], by
+// perl's \p. 13 is the number of Lu.
 const CASES: &[(SetName, u32, bool, bool)] = &[
     (LU, 0x41, true, true),
     (LU, 0x61, false, false),

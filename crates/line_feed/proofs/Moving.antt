@@ -1,5 +1,6 @@
 -- Bytes taken, piece by piece.
-use Rattle.std.proofs.Common.{◌≡◌, ℕ, ◌+◌, ◌^◌, ◌<◌, [], ◌++◌, length, refl, sym, ap, subst, ◌∙◌, ⊎_elim, append_assoc, append-nil, length-append}
+use Rattle.std.proofs.Common.{◌≡◌, ℕ, ◌+◌, ◌^◌, ◌<◌, [], ◌++◌, length, refl, sym, ap, subst, ◌∙◌, ⊎_elim}
+use Rattle.std.proofs.Common.{append_assoc, append-nil, length-append}
 use Rattle.std.proofs.KnownBytes.{Consumes-nil, Consumes-trans}
 use Rattle.pcre_io.specs.Told.{Told}
 use Rattle.line_feed.specs.declared.phase.Phase.{Phase}
@@ -33,7 +34,8 @@ Moves-none f t few = record {
 
 -- a feed that may read on could do so before
 pub was-open : (a b : Feed) (s t : Told) → Moves a b s t → b.phase ≡ Open → a.phase ≡ Open
-was-open a b s t moves opened = ⊎_elim (λ e. e) (λ shut. absurd (shut (sym (moves.idle shut).1 ∙ opened))) (phase-open a.phase)
+was-open a b s t moves opened = ⊎_elim (λ e. e) (λ shut. absurd (shut (sym (moves.idle shut).1 ∙ opened)))
+    (phase-open a.phase)
 
 pub Moves-trans : (a b c : Feed) (s t u : Told) → Moves a b s t → b.phase ≡ Open → Moves b c t u → Moves a c s u
 Moves-trans a b c s t u first opened then =
@@ -48,7 +50,9 @@ Moves-trans a b c s t u first opened then =
       offset = then.offset ∙ first.offset;
       kind = then.kind ∙ first.kind;
       max = then.max ∙ first.max;
-      met = λ _. (let here = subst (λ p. Met s t p (length first.taken) (b.offset + length b.held)) opened (first.met from) in
-          subst (λ n. Met s u c.phase n (c.offset + length c.held)) (sym long) (met-then s t u c.phase _ _ _ (then.met opened) here.0 first.stop));
+      met = λ _. (let here = subst (λ p. Met s t p (length first.taken) (b.offset + length b.held)) opened
+          (first.met from) in
+          subst (λ n. Met s u c.phase n (c.offset + length c.held)) (sym long)
+          (met-then s t u c.phase _ _ _ (then.met opened) here.0 first.stop));
       idle = λ shut. absurd (shut from);
     }

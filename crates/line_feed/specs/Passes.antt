@@ -10,8 +10,8 @@ use Rattle.line_feed.specs.Rows.{Row, row_with}
 use Rattle.line_feed.specs.View.{Feed}
 use Rattle.line_feed.specs.Answers.{Gives}
 
--- These rows were given one after the other, each of at most `longest` bytes, within so many bytes. What the source tells
--- is `now` all the while: nothing is read.
+-- These rows were given one after the other, each of at most `longest` bytes, within so many bytes. What the source
+-- tells is `now` all the while: nothing is read.
 abbrev pub GivesAll : Told → ℕ → ℕ → Feed → Feed → List Row → Type 0
 GivesAll now within longest f g [] = g ≡ f
 GivesAll now within longest f g (row ∷ rows) =

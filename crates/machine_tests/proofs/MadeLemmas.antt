@@ -16,13 +16,16 @@ all_back P (x ∷ xs) ys a = all_back P xs ys (All-tail P x (xs ++ ys) a)
 pub made_last : (d : DraftParts) (front ks : List ℕ) → IsMade d (front ++ ks) → All (λ k. k < length d.nodes) ks
 made_last d front ks h = all_back (λ k. k < length d.nodes) front ks h.below
 
-pub made_more : (d : DraftParts) (front : List ℕ) (p : Placed) → IsMade d (front ++ kids_of p.node) → IsMade (with_node d p) (front ++ length d.nodes ∷ [])
+pub made_more : (d : DraftParts) (front : List ℕ) (p : Placed) → IsMade d (front ++ kids_of p.node)
+    → IsMade (with_node d p) (front ++ length d.nodes ∷ [])
 made_more d front p h = record {
   free = replaces_push d.nodes p front h.free;
   below = rw (length-append d.nodes (p ∷ []))
       (All-append (λ k. k < length d.nodes + 1) front (length d.nodes ∷ [])
-      (All-weaker (λ k. k < length d.nodes) (λ k. k < length d.nodes + 1) (λ k l. omega (arith, l)) front (all_front (λ k. k < length d.nodes) front (kids_of p.node) h.below))
-      (All-cons (λ k. k < length d.nodes + 1) (length d.nodes) [] (omega arith) (All-nil (λ k. k < length d.nodes + 1))));
+      (All-weaker (λ k. k < length d.nodes) (λ k. k < length d.nodes + 1) (λ k l. omega (arith, l)) front
+      (all_front (λ k. k < length d.nodes) front (kids_of p.node) h.below))
+      (All-cons (λ k. k < length d.nodes + 1) (length d.nodes) [] (omega arith)
+      (All-nil (λ k. k < length d.nodes + 1))));
   bytes = h.bytes;
   classes = h.classes;
   names = h.names;

@@ -158,8 +158,8 @@ const A_LOOKAHEAD_GOES_BACK_TO_ITS_PLACE: &[Row] = &[
     (b"(?!(a)b)ac", b"ac", found!(0, 2), &[]),
 ];
 
-// To enter a lookahead and to leave it is a unit each. One that keeps all its outcomes is left without one, and a negative
-// one leaves the units as they were.
+// To enter a lookahead and to leave it is a unit each. One that keeps all its outcomes is left without one, and a
+// negative one leaves the units as they were.
 #[test]
 fn a_lookahead_goes_back_to_its_place(rt: HostRuntime) -> Result<(), Fail> {
     cases(&rt, rt.alloc(), A_LOOKAHEAD_GOES_BACK_TO_ITS_PLACE)
@@ -184,8 +184,8 @@ const A_LOOKBEHIND_BEGINS_BEFORE_ITS_PLACE: &[Row] = &[
     (b"ab(?<!x|ab)c", b"abc", FAILED, &[]),
 ];
 
-// To enter a lookbehind and to leave it is a unit each, and each of its branches is a Step. There is no character before
-// the first place.
+// To enter a lookbehind and to leave it is a unit each, and each of its branches is a Step. There is no character
+// before the first place.
 #[test]
 fn a_lookbehind_begins_before_its_place(rt: HostRuntime) -> Result<(), Fail> {
     cases(&rt, rt.alloc(), A_LOOKBEHIND_BEGINS_BEFORE_ITS_PLACE)

@@ -1,7 +1,8 @@
 //! Trees that are made by hand, beside what patterns are read as.
 ghost use Rattle.std.specs.Prelude.{◌+◌, ◌∷◌, ◌≡◌, ◌<◌, ◌≤◌, ◌++◌, [], All, IfOk, OnOk, false, length};
 ghost use Rattle.pat_tree.specs.declared.nodes.Node.TheVariants as node;
-ghost use Rattle.pat_tree.specs.Rules.{kids_of, classes_of, verb_names_of, numbers_of, asserted_by, IsNamed, IsOrdered, IsDefine};
+ghost use Rattle.pat_tree.specs.Rules.{kids_of, classes_of, verb_names_of, numbers_of, asserted_by, IsNamed};
+ghost use Rattle.pat_tree.specs.Rules.{IsOrdered, IsDefine};
 ghost use Rattle.machine_tests.specs.Made.{IsMade};
 
 use char_sets::ClassTable;

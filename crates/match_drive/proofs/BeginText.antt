@@ -1,5 +1,6 @@
 -- Places behind which a text doesn't stand at the distance at which every match takes it.
-use Rattle.std.proofs.Common.{◌≡◌, ℕ, ◌+◌, ◌<◌, ◌≤◌, Bool, true, List, [], ◌∷◌, length, take, Option, None, Some, refl, sym, subst, arith, length-take-le, get_or-take}
+use Rattle.std.proofs.Common.{◌≡◌, ℕ, ◌+◌, ◌<◌, ◌≤◌, Bool, true, List, [], ◌∷◌, length, take, Option, None, Some}
+use Rattle.std.proofs.Common.{refl, sym, subst, arith, length-take-le, get_or-take}
 use Rattle.std.specs.Prelude.{slice_index, IfSome}
 use Rattle.pat_tree.specs.declared.options.Options.{Options}
 use Rattle.pat_tree.specs.declared.options.PartialMode.TheVariants.{Off}
@@ -72,15 +73,19 @@ least_of_all text bytes n from to found within ordered fits far least r low high
       (λ i d e. far i d (let few = three_sets text in omega (arith, e, few, b, high))) h);
   holds = λ l. let e = same l in
       subst (Stands (sets_of text) bytes) (sym e)
-      (stands_more bytes n within (sets_of text) found (least.holds (omega (arith, e, l, fits, length-take-le n bytes within))));
+      (stands_more bytes n within (sets_of text) found
+      (least.holds (omega (arith, e, l, fits, length-take-le n bytes within))));
 }
 
--- A search fails at each place without the text that a finished tree's matches take at a distance from where they begin.
+-- A search fails at each place without the text that a finished tree's matches take at a distance from where they
+-- begin.
 
-pub begun_told : (tree : TreeParts) (view : View) (need : Need) (told : Option BeginText) → IsNeedOf tree need → told ≡ need.begin
+pub begun_told : (tree : TreeParts) (view : View) (need : Need) (told : Option BeginText) → IsNeedOf tree need
+    → told ≡ need.begin
     → view.options.now ≡ tree.options → IsText view.options.now view.subject.now
     → IsTextPlace view.options.now view.subject.now view.start → view.matching.now.«partial» ≡ Off
-    → at need.bound.steps (length view.subject.now + 1) ≤ lower_of view.options.now.match_limit view.matching.now.match_limit
+    → at need.bound.steps (length view.subject.now + 1) ≤ lower_of view.options.now.match_limit
+    view.matching.now.match_limit
     → at need.bound.units (length view.subject.now + 1) ≤ view.matching.now.frame_limit
     → ((k : ℕ) → k < length view.subject.now → slice_index view.subject.now k < 256)
     → IfSome told (IsBegun (setting_for tree view passed_over))
@@ -88,14 +93,18 @@ begun_told tree view need None is known shown text begun off steps units small =
 begun_told tree view need (Some begin) is known shown text begun off steps units small = λ reply p here missing.
     let may = may_take tree.options.utf (class_has tree) in
     let begins : NeedsAt may tree.options.utf (sets_of begin.text) begin.distance (tree_of tree) =
-    subst (λ o. IfSome o (λ (t : BeginText). NeedsAt may tree.options.utf (sets_of t.text) t.distance (tree_of tree))) (sym known) is.begin in
-    begin_law (replied reply (setting_for tree view passed_over)) (sets_of begin.text) begin.distance need.bound p (record {
-      needs = subst (λ (has : ℕ → ℕ → Bool). NeedsAt (may_take tree.options.utf has) tree.options.utf (sets_of begin.text) begin.distance (tree_of tree)) (class_told tree) begins;
+    subst (λ o. IfSome o (λ (t : BeginText). NeedsAt may tree.options.utf (sets_of t.text) t.distance (tree_of tree)))
+    (sym known) is.begin in
+    begin_law (replied reply (setting_for tree view passed_over)) (sets_of begin.text) begin.distance need.bound p
+    (record {
+      needs = subst (λ (has : ℕ → ℕ → Bool). NeedsAt (may_take tree.options.utf has) tree.options.utf
+          (sets_of begin.text) begin.distance (tree_of tree)) (class_told tree) begins;
       small = small;
       missing = missing;
       bounded = subst (λ (has : ℕ → ℕ → Bool). bound has (tree_of tree) ≡ Some need.bound) (class_told tree) is.bound;
       folds = refl;
-      steps = subst (λ (o : Options). at need.bound.steps (length view.subject.now + 1) ≤ lower_of o.match_limit view.matching.now.match_limit) shown steps;
+      steps = subst (λ (o : Options). at need.bound.steps (length view.subject.now + 1) ≤ lower_of o.match_limit
+          view.matching.now.match_limit) shown steps;
       units = units;
       text = λ utf. subst (λ (o : Options). IsText o view.subject.now) shown text;
       begun = λ utf. subst (λ (o : Options). IsTextPlace o view.subject.now view.start) shown begun;

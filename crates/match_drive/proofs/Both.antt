@@ -27,7 +27,8 @@ alike t g whole rules bytes text begun off unverbed ok =
       begun = begun;
     }) ok
 
-pub ready_alike : (ready : Ready) (view : View) (answers : Block → ℤ) → IsReadySearch ready view → TreeRules ready.tree.now
+pub ready_alike : (ready : Ready) (view : View) (answers : Block → ℤ) → IsReadySearch ready view
+    → TreeRules ready.tree.now
     → AreBytes view.subject.now → AreAlike (setting_for ready.tree.now view answers)
 ready_alike ready view answers search rules bytes =
     alike ready.tree.now (setting_for ready.tree.now view answers) refl rules bytes

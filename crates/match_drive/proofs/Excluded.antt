@@ -17,7 +17,8 @@ module _ (g : Setting) where
   excluded_by p h = ap (λ b. elim b [ true ↦ false | false ↦ is_outside g (lead_set g) p ]) h
 
   -- no set is known
-  pub excluded_without : (p : ℕ) → g.options.no_start_optimize ≡ false → IsByteSet None (lead_set g) → is_excluded g p ≡ false
+  pub excluded_without : (p : ℕ) → g.options.no_start_optimize ≡ false → IsByteSet None (lead_set g)
+      → is_excluded g p ≡ false
   excluded_without p h none = excluded_by p h ∙ by_lead (lead_set g) none
     where
       by_lead : (lead : Option (ℕ → Bool)) → IsByteSet None lead → is_outside g lead p ≡ false
@@ -25,20 +26,26 @@ module _ (g : Setting) where
       by_lead (Some has) none = absurd none
 
   -- a byte excludes its place where it isn't in the set
-  pub excluded_inside : (set : List Bool) (p : ℕ) → g.options.no_start_optimize ≡ false → IsByteSet (Some set) (lead_set g)
-      → p < length g.subject → slice_index g.subject p < 256 → is_excluded g p ≡ not (has_byte set (slice_index g.subject p))
+  pub excluded_inside : (set : List Bool) (p : ℕ) → g.options.no_start_optimize ≡ false
+      → IsByteSet (Some set) (lead_set g)
+      → p < length g.subject → slice_index g.subject p < 256
+      → is_excluded g p ≡ not (has_byte set (slice_index g.subject p))
   excluded_inside set p h is inside byte = excluded_by p h ∙ by_lead (lead_set g) is
     where
-      by_lead : (lead : Option (ℕ → Bool)) → IsByteSet (Some set) lead → is_outside g lead p ≡ not (has_byte set (slice_index g.subject p))
+      by_lead : (lead : Option (ℕ → Bool)) → IsByteSet (Some set) lead
+          → is_outside g lead p ≡ not (has_byte set (slice_index g.subject p))
       by_lead None is = absurd is
       by_lead (Some has) is =
-          ap (λ b. elim b [ true ↦ is_off g.matching.«partial» | false ↦ not (has (slice_index g.subject p)) ]) (lt-leb (length g.subject) p inside)
+          ap (λ b. elim b [ true ↦ is_off g.matching.«partial» | false ↦ not (has (slice_index g.subject p)) ])
+          (lt-leb (length g.subject) p inside)
           ∙ ap not (sym (is (slice_index g.subject p) byte))
 
-  pub excluded_by_byte : (set : List Bool) (p : ℕ) → g.options.no_start_optimize ≡ false → IsByteSet (Some set) (lead_set g) → p < length g.subject
+  pub excluded_by_byte : (set : List Bool) (p : ℕ) → g.options.no_start_optimize ≡ false
+      → IsByteSet (Some set) (lead_set g) → p < length g.subject
       → IsByteOutside set (slice_index g.subject p) → is_excluded g p ≡ true
   excluded_by_byte set p h is inside out = excluded_inside set p h is inside out.0 ∙ ap not out.1
 
-  pub lead_is_used : (o : Option (List Bool)) → g.options.no_start_optimize ≡ false → IsByteSet o (lead_set g) → IsLeadUsed g o
+  pub lead_is_used : (o : Option (List Bool)) → g.options.no_start_optimize ≡ false → IsByteSet o (lead_set g)
+      → IsLeadUsed g o
   lead_is_used None h is = λ p. excluded_without p h is
   lead_is_used (Some set) h is = (h, is)

@@ -22,7 +22,9 @@ use Rattle.frame_machine.specs.frame_board.Ready.{setting_for}
 use Rattle.match_starts.proofs.Leads.{class_told}
 
 -- a search that finds no place
-pub stands_nowhere : (text : ByteText) (bytes : List ℕ) (n : ℕ) → IsLeast (Stands (sets_of text) bytes) 0 (length bytes) n → n ≡ length bytes → (k : ℕ) → ¬ Stands (sets_of text) bytes k
+pub stands_nowhere : (text : ByteText) (bytes : List ℕ) (n : ℕ)
+    → IsLeast (Stands (sets_of text) bytes) 0 (length bytes) n → n ≡ length bytes → (k : ℕ)
+    → ¬ Stands (sets_of text) bytes k
 stands_nowhere text bytes n least e k h =
     let within = h.0 in
     least.before k (omega arith) (omega (arith, within, e)) h
@@ -39,12 +41,15 @@ pub none_without : (tree : TreeParts) (view : View) (text : ByteText) (b : Bound
     → match_answer (setting_for tree view answers) ≡ none_found
 none_without tree view wanted b answers needs bounded shown text begun off steps units small missing =
     need_law (setting_for tree view answers) (sets_of wanted) b (record {
-      needs = subst (λ (has : ℕ → ℕ → Bool). Needs (may_take tree.options.utf has) tree.options.utf true (sets_of wanted) (tree_of tree)) (class_told tree) needs;
+      needs = subst (λ (has : ℕ → ℕ → Bool). Needs (may_take tree.options.utf has) tree.options.utf true
+          (sets_of wanted) (tree_of tree)) (class_told tree) needs;
       small = small;
       missing = missing;
-      bounded = subst (λ (has : ℕ → ℕ → Bool). IsBoundWithout (may_take tree.options.utf has) tree.options.utf has (sets_of wanted) (tree_of tree) b) (class_told tree) bounded;
+      bounded = subst (λ (has : ℕ → ℕ → Bool). IsBoundWithout (may_take tree.options.utf has) tree.options.utf has
+          (sets_of wanted) (tree_of tree) b) (class_told tree) bounded;
       folds = refl;
-      steps = subst (λ (o : Options). at b.steps (length view.subject.now + 1) ≤ lower_of o.match_limit view.matching.now.match_limit) shown steps;
+      steps = subst (λ (o : Options). at b.steps (length view.subject.now + 1) ≤ lower_of o.match_limit
+          view.matching.now.match_limit) shown steps;
       units = units;
       text = λ utf. subst (λ (o : Options). IsText o view.subject.now) shown text;
       begun = λ utf. subst (λ (o : Options). IsTextPlace o view.subject.now view.start) shown begun;

@@ -9,7 +9,8 @@ use Rattle.match_drive.specs.declared.answer.MatchAnswer.{MatchAnswer}
 use Rattle.match_drive.specs.declared.answer.MatchAnswer.TheVariants as answer
 use Rattle.match_drive.specs.Answer.{IsMatchAnswer, IsNotPartial}
 
-pub none_told : (g : Setting) → g.matching.«partial» ≡ Off → (answer : MatchAnswer) (caps : Captures) → IsMatchAnswer answer caps (match_answer g) → IsNotPartial answer
+pub none_told : (g : Setting) → g.matching.«partial» ≡ Off → (answer : MatchAnswer) (caps : Captures)
+    → IsMatchAnswer answer caps (match_answer g) → IsNotPartial answer
 none_told g off (answer.Partial start mark) caps is = no_partial g off start is.0
 none_told g off (answer.Match keep to mark) caps is = tt
 none_told g off (answer.NoMatch mark) caps is = tt

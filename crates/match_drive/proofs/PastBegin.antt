@@ -1,10 +1,12 @@
 -- A pattern that stands at the subject's begin alone fails at every later place.
-use Rattle.std.proofs.Common.{◌≡◌, ℕ, zero, suc, ◌+◌, ◌-◌, ◌<◌, ◌≤◌, ◌==◌, Bool, true, false, not, length, Option, Some, None, refl, ap, ◌∙◌, arith}
+use Rattle.std.proofs.Common.{◌≡◌, ℕ, zero, suc, ◌+◌, ◌-◌, ◌<◌, ◌≤◌, ◌==◌, Bool, true, false, not, length, Option}
+use Rattle.std.proofs.Common.{Some, None, refl, ap, ◌∙◌, arith}
 use Rattle.std.specs.Prelude.{IfSome}
 use Rattle.std.proofs.lemmas.Bool.{eqb-true}
 use Rattle.std.proofs.lemmas.Option.{IfSome_then}
 use Rattle.pat_tree.specs.declared.nodes.AnchorKind.{AnchorKind}
-use Rattle.pat_tree.specs.declared.nodes.AnchorKind.TheVariants.{Caret, Dollar, SubjectStart, SubjectEnd, EndOrNewline, StartGiven, Word, NotWord}
+use Rattle.pat_tree.specs.declared.nodes.AnchorKind.TheVariants.{Caret, Dollar, SubjectStart, SubjectEnd}
+use Rattle.pat_tree.specs.declared.nodes.AnchorKind.TheVariants.{EndOrNewline, StartGiven, Word, NotWord}
 use Rattle.pat_tree.specs.Nested.{Row, seq, group, anchor, none, more}
 use Rattle.ordered_search.specs.Stream.{State, first_state, reached, nothing, gives, each, and_then}
 use Rattle.ordered_search.specs.Setting.{Setting, match_limit, reach_if}
@@ -24,7 +26,8 @@ use Rattle.ordered_search.proofs.StartPlaces.{after_later}
 abbrev where_at : Bool → Bool → Bool
 where_at b c = elim b [ true ↦ c | false ↦ false ]
 
-fails_unless : (b c : Bool) (s : State) → b ≡ false → elim (where_at b c) [ true ↦ gives reached s | false ↦ nothing ] ≡ nothing
+fails_unless : (b c : Bool) (s : State) → b ≡ false → elim (where_at b c)
+    [ true ↦ gives reached s | false ↦ nothing ] ≡ nothing
 fails_unless true c s h = absurd (cc h)
 fails_unless false c s h = refl
 
@@ -40,7 +43,8 @@ not_zero p h = by_test (p == 0) refl
     by_test false e = refl
 
 module _ (g : Setting) where
-  anchor_fails : (kind : AnchorKind) (s : State) → is_begin kind ≡ true → (s.place == 0) ≡ false → run_anchor g kind s ≡ nothing
+  anchor_fails : (kind : AnchorKind) (s : State) → is_begin kind ≡ true → (s.place == 0) ≡ false
+      → run_anchor g kind s ≡ nothing
   unfolding run_anchor reach_if
   anchor_fails (Caret true) s h past = absurd (cc h)
   anchor_fails (Caret false) s h past = fails_unless (s.place == 0) (not g.matching.notbol) s past
@@ -55,7 +59,8 @@ module _ (g : Setting) where
   whole_fails : (d : ℕ) (kind : AnchorKind) (parts : Row) (s : State) → is_begin kind ≡ true → (s.place == 0) ≡ false
       → run g (suc d) (group None (more (seq (more (anchor kind) parts)) none)) s ≡ nothing
   unfolding run level levels run_group branches in_order each
-  whole_fails d kind parts s h past = ap (λ x. and_then x (in_order (levels g (run g d) parts))) (anchor_fails kind s h past)
+  whole_fails d kind parts s h past = ap (λ x. and_then x (in_order (levels g (run g d) parts)))
+      (anchor_fails kind s h past)
 
   place_fails : StandsAtBegin g.whole → (p : ℕ) → (p == 0) ≡ false → place_answer g p ≡ answers (Failed Exhausted)
   unfolding walk
@@ -68,7 +73,8 @@ module _ (g : Setting) where
   tried_fails : StandsAtBegin g.whole → (p : ℕ) → (p == 0) ≡ false → tried g p ≡ answers (Failed Exhausted)
   tried_fails h p past = by_test (is_excluded g p)
     where
-      by_test : (b : Bool) → elim b [ true ↦ answers (Failed Exhausted) | false ↦ place_answer g p ] ≡ answers (Failed Exhausted)
+      by_test : (b : Bool) → elim b [ true ↦ answers (Failed Exhausted) | false ↦ place_answer g p ] ≡ answers
+          (Failed Exhausted)
       by_test true = refl
       by_test false = place_fails h p past
 
@@ -79,8 +85,11 @@ module _ (g : Setting) where
     none_later zero (Some p) low = refl
     none_later (suc n) (Some p) low =
         from_is g begun n p
-        ∙ ap (λ (w : Walked). found_at p w (λ signal. from_place g n (place_after g p signal))) (tried_fails only p (not_zero p low))
-        ∙ none_later n (place_after g p Exhausted) (IfSome_then (place_after g p Exhausted) (after_later g begun p Exhausted) (λ q both. omega (arith, low, both.0)))
+        ∙ ap (λ (w : Walked). found_at p w (λ signal. from_place g n (place_after g p signal)))
+        (tried_fails only p (not_zero p low))
+        ∙ none_later n (place_after g p Exhausted)
+        (IfSome_then (place_after g p Exhausted) (after_later g begun p Exhausted)
+        (λ q both. omega (arith, low, both.0)))
 
     -- nothing is found past the subject's begin
     pub none_past : (p : ℕ) → 0 < p → found_from g (Some p) ≡ none_found

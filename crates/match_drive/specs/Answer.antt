@@ -18,7 +18,8 @@ use Rattle.match_drive.specs.Rest.{IsLeft}
 -- The answer, and the captures of a match, are those of the search. Without a match the mark is the last name that was
 -- met. Want of memory may come at any time.
 abbrev pub IsMatchAnswer : MatchAnswer → Captures → Found → Type 0
-IsMatchAnswer (told.Match keep to mark) caps f = f.answer ≡ meant.Match (record { keep = keep; to = to; mark = mark; caps = caps })
+IsMatchAnswer (told.Match keep to mark) caps f = f.answer ≡ meant.Match
+    (record { keep = keep; to = to; mark = mark; caps = caps })
 IsMatchAnswer (told.NoMatch mark) caps f = (f.answer ≡ meant.NoMatch) × (mark ≡ last_name f.notes)
 IsMatchAnswer (told.Partial start mark) caps f = (f.answer ≡ meant.PartialFrom start) × (mark ≡ last_name f.notes)
 IsMatchAnswer told.MatchLimit caps f = f.answer ≡ meant.Error place.MatchLimit
@@ -32,8 +33,8 @@ abbrev pub IsLastMark : MatchAnswer → Option ℕ → Found → Type 0
 IsLastMark told.Memory mark f = Unit {0}
 IsLastMark _ mark f = mark ≡ last_name f.notes
 
--- What callouts showed, where it is told, grows by what the search told, at the place that decided and before. Where want of
--- memory is answered, nothing is said.
+-- What callouts showed, where it is told, grows by what the search told, at the place that decided and before. Where
+-- want of memory is answered, nothing is said.
 abbrev pub IsShown : MatchAnswer → Option (List Block) → Option (List Block) → Found → Type 0
 IsShown told.Memory old new f = Unit {0}
 IsShown _ old new f = new ≡ seen_after old (blocks f.notes)
@@ -62,9 +63,11 @@ TellsMemory _ result = Unit {0}
 -- the search's answer is that of the place at which it is, where it has come so far
 abbrev pub TellsPlace : PlaceAnswer → ℕ → Option ℕ → Option ℕ → MatchAnswer → Type 0
 TellsPlace answer p first mark result =
-    (caps : Captures) (w : Walked) (later : Signal → Found) (old : Option ℕ) (whole : Found) → IsAnswer answer caps w → IsMark answer old mark w
+    (caps : Captures) (w : Walked) (later : Signal → Found) (old : Option ℕ) (whole : Found) → IsAnswer answer caps w
+    → IsMark answer old mark w
     → IsLeft whole first old (found_at p w later) → IsMatchAnswer result caps whole × IsLastMark result mark whole
 
 -- the search's answer where no place decides
 abbrev pub TellsNone : Option ℕ → Option ℕ → MatchAnswer → Type 0
-TellsNone first mark result = (caps : Captures) (whole : Found) → IsLeft whole first mark none_found → IsMatchAnswer result caps whole × IsLastMark result mark whole
+TellsNone first mark result = (caps : Captures) (whole : Found) → IsLeft whole first mark none_found
+    → IsMatchAnswer result caps whole × IsLastMark result mark whole

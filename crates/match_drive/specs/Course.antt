@@ -15,8 +15,8 @@ use Rattle.match_starts.specs.Repeats.{IsFirstRepeat}
 use Rattle.match_starts.specs.Whole.{IsWholeSearch}
 use Rattle.match_drive.specs.Run.{IsFirstRun}
 
--- The search at one place runs. Where it is told so, the pattern stands at the subject's begin alone. The branches that are
--- tested are its own, and so are the text at a distance from its begin, and the repeat that it is, and the repeat
+-- The search at one place runs. Where it is told so, the pattern stands at the subject's begin alone. The branches that
+-- are tested are its own, and so are the text at a distance from its begin, and the repeat that it is, and the repeat
 -- and the run that it begins with, where they are known; there are none under partial matching.
 pub record IsByteCourse (ready : Ready) (view : View) (guide : Guide) (first : List ℕ)
     (text : Option BeginText) : Type 0 where

@@ -7,8 +7,8 @@ use Rattle.match_drive.specs.declared.outline.Outline.{Outline}
 use Rattle.match_drive.specs.Begin.{StandsAtBegin}
 use Rattle.match_drive.specs.Run.{BeginsByRun}
 
--- Where it is told so, the pattern stands at the subject's begin alone, or is a repeat. The repeat and the run are those
--- that it begins with.
+-- Where it is told so, the pattern stands at the subject's begin alone, or is a repeat. The repeat and the run are
+-- those that it begins with.
 pub record IsOutlineOf (tree : TreeParts) (outline : Outline) : Type 0 where
   pub begin : IsTrue outline.at_begin → StandsAtBegin (tree_of tree)
   pub whole : IfSome outline.whole (IsWhole tree)

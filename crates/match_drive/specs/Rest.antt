@@ -1,5 +1,6 @@
 -- What is left of a search from a start place on, and how the places before add to it.
-use Rattle.std.specs.Prelude.{◌≡◌, ◌≤◌, ◌<◌, ℕ, ℤ, ◌+◌, ◌-◌, Bool, true, false, ◌&&◌, List, length, Option, Some, None, IsSomeAnd, nat_lt}
+use Rattle.std.specs.Prelude.{◌≡◌, ◌≤◌, ◌<◌, ℕ, ℤ, ◌+◌, ◌-◌, Bool, true, false, ◌&&◌, List, length, Option, Some}
+use Rattle.std.specs.Prelude.{None, IsSomeAnd, nat_lt}
 use Rattle.std.specs.Option.{option_or}
 use Rattle.ordered_search.specs.pat_check.Known.{IsByteSet}
 use Rattle.pcre_io.specs.declared.callouts.Block as told
@@ -19,7 +20,8 @@ module _ (g : Setting) where
   IsLeadUsed None = (p : ℕ) → is_excluded g p ≡ false
   IsLeadUsed (Some set) = (g.options.no_start_optimize ≡ false) × IsByteSet (Some set) (lead_set g)
 
-  -- the place behind those from one up to another: one further where the last of them is the CR of a CRLF that is passed whole
+  -- the place behind those from one up to another: one further where the last of them is the CR of a CRLF that is
+  -- passed whole
   abbrev pub behind : ℕ → ℕ → ℕ
   behind p q = elim (nat_lt p q && passes_crlf g (q - 1)) [ true ↦ q + 1 | false ↦ q ]
 

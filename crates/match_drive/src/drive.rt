@@ -6,7 +6,8 @@ ghost use Rattle.pcre_io.specs.declared.callouts.Block.{Block};
 ghost use Rattle.frame_state.specs.Room.{IsQuiet};
 ghost use Rattle.frame_machine.specs.Scratch.{HasRoom, IsOfSearch};
 ghost use Rattle.match_starts.specs.Asked.{passed_over};
-ghost use Rattle.match_drive.specs.Answer.{IsMatchAnswer, IsLastMark, IsNotPartial, IsDeciding, IsOfMatching, IsShown, TellsMemory, TellsPlace, TellsNone};
+ghost use Rattle.match_drive.specs.Answer.{IsMatchAnswer, IsLastMark, IsNotPartial, IsDeciding, IsOfMatching};
+ghost use Rattle.match_drive.specs.Answer.{IsShown, TellsMemory, TellsPlace, TellsNone};
 ghost use Rattle.ordered_search.specs.MatchAnswer.{match_answer};
 ghost use Rattle.match_drive.specs.Rest as rest;
 ghost use Rattle.match_drive.specs.Outline.{IsOutlineOf};
@@ -33,8 +34,8 @@ fn first_hit(first: Option<usize>, hit_end: bool, at: usize) -> Option<usize>
     }
 }
 
-/// The answer where a place decides, after a first one that reached the subject's end. `last_mark` is the last name that
-/// was met.
+/// The answer where a place decides, after a first one that reached the subject's end. `last_mark` is the last name
+/// that was met.
 fn decided(
     answer: PlaceAnswer,
     at: usize,
@@ -73,10 +74,10 @@ fn undecided(first: Option<usize>, mark: Option<u32>) -> MatchAnswer
     }
 }
 
-/// Searches over all start places, in order, and answers what the definitions answer, with the captures of a match in the
-/// workspace (pcre2api, "Matching a pattern: the traditional function"). There is no partial match without partial matching.
-/// Want of memory may be answered at any time. The workspace can be used again after every answer. `calls` is shown a block
-/// at each callout.
+/// Searches over all start places, in order, and answers what the definitions answer, with the captures of a match in
+/// the workspace (pcre2api, "Matching a pattern: the traditional function"). There is no partial match without partial
+/// matching. Want of memory may be answered at any time. The workspace can be used again after every answer. `calls` is
+/// shown a block at each callout.
 pub fn search_on<S: Driven, C: Callouts>(
     on: &S,
     scratch: &mut Scratch,
@@ -114,9 +115,9 @@ pub fn search_on<S: Driven, C: Callouts>(
     undecided(first, scratch.last_mark())
 }
 
-/// Searches a finished tree over all start places, in order, and leaves the captures of a match in the workspace (pcre2api,
-/// "Matching a pattern: the traditional function"). Any workspace serves, new or used, and it can be used again after every
-/// answer. Want of memory may be answered at any time.
+/// Searches a finished tree over all start places, in order, and leaves the captures of a match in the workspace
+/// (pcre2api, "Matching a pattern: the traditional function"). Any workspace serves, new or used, and it can be used
+/// again after every answer. Want of memory may be answered at any time.
 ///
 /// For a tree without verbs, callouts and calls the answer is the same with start optimisations and
 /// without them, unless a limit is passed without them (pcre2api, "Option bits for
@@ -126,8 +127,8 @@ pub fn search_on<S: Driven, C: Callouts>(
 /// bytes, which in UTF is UTF-8; and a start in the subject, in UTF where a character begins. There is no partial match
 /// without partial matching.
 ///
-/// At each callout it calls `calls`, and follows the answer. Where want of memory is answered, the blocks that were shown
-/// aren't told.
+/// At each callout it calls `calls`, and follows the answer. Where want of memory is answered, the blocks that were
+/// shown aren't told.
 pub fn search<C: Callouts>(
     ready: &Ready<'_>,
     view: &View<'_>,

@@ -109,7 +109,9 @@ pub trait Driven {
 
     ghost subject_is: { (x : Self) → fits x → IsText (asked x passed_over).options (asked x passed_over).subject };
 
-    ghost start_is: { (x : Self) → fits x → IsTextPlace (asked x passed_over).options (asked x passed_over).subject (asked x passed_over).start };
+    ghost start_is: { (x : Self) → fits x → IsTextPlace (asked x passed_over).options (asked x passed_over).subject
+        (asked x passed_over).start };
 
-    ghost alike: { (x : Self) (answers : Block → ℤ) → asked x answers ≡ replied (asked x answers).reply (asked x passed_over) };
+    ghost alike: { (x : Self) (answers : Block → ℤ) → asked x answers ≡ replied (asked x answers).reply
+        (asked x passed_over) };
 }

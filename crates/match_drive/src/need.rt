@@ -50,8 +50,8 @@ struct Ahead<'a> {
     bound: Bound,
 }
 
-/// The text to look for ahead of a search. Where start places are found by the needed one it is a text further on, if any,
-/// and only where what stands between the two is given back place by place: else a search without it ends soon.
+/// The text to look for ahead of a search. Where start places are found by the needed one it is a text further on, if
+/// any, and only where what stands between the two is given back place by place: else a search without it ends soon.
 fn text_ahead(need: &Need) -> Option<Ahead<'_>>
     ensures { (tree : TreeParts) → IsNeedOf tree need.now → IfSome result (λ ahead.
         Needs (may_of tree) tree.options.utf true (sets_of ahead.text.now) (tree_of tree)
@@ -72,9 +72,9 @@ fn text_ahead(need: &Need) -> Option<Ahead<'_>>
     }
 }
 
-/// True only where the subject has no match, partial or not, and a search of it passes no limit: a text that every match
-/// takes stands nowhere in it. A search that begins later isn't looked at, so that many searches of a long subject don't
-/// each look over what stands before.
+/// True only where the subject has no match, partial or not, and a search of it passes no limit: a text that every
+/// match takes stands nowhere in it. A search that begins later isn't looked at, so that many searches of a long
+/// subject don't each look over what stands before.
 pub(crate) fn lacks_need(ready: &Ready<'_>, view: &View<'_>) -> bool
     requires { IsReadySearch ready.now view.now }
     ensures { IsTrue result → (answers : Block → ℤ)

@@ -136,8 +136,8 @@ pub(crate) fn is_excluded<S: Driven>(on: &S, at: usize) -> bool
     }
 }
 
-/// The place behind the places from one up to another, which all fail: one further where the last of them is the CR of a
-/// CRLF that is passed whole.
+/// The place behind the places from one up to another, which all fail: one further where the last of them is the CR of
+/// a CRLF that is passed whole.
 fn behind<S: Driven>(on: &S, from: usize, to: usize) -> usize
     requires fits { S.fits on.now }
     requires ordered { from ≤ to }
@@ -159,8 +159,8 @@ fn bytes_end(last: usize, length: usize) -> usize
     if last < length { last + 1 } else { length }
 }
 
-/// Whether a character begins at a byte, as one does outside UTF at each, and in UTF where the byte doesn't continue one
-/// (RFC 3629, section 3).
+/// Whether a character begins at a byte, as one does outside UTF at each, and in UTF where the byte doesn't continue
+/// one (RFC 3629, section 3).
 fn is_place(bytes: &[u8], at: usize, utf: bool) -> bool
     requires { at < length bytes.now }
     ensures place { IsTrue result → text.IsPlace utf bytes.now at }

@@ -1,5 +1,6 @@
 -- The longest run of an item over bytes.
-use Rattle.std.proofs.Common.{Bool, true, false, not, ◌&&◌, ◌||◌, ◌≡◌, ℕ, zero, suc, ◌+◌, ◌-◌, ◌<◌, ◌≤◌, List, [], ◌∷◌, Option, Some, None, length, refl, sym, ap, subst, ◌∙◌, arith, if◌then◌else◌, cond}
+use Rattle.std.proofs.Common.{Bool, true, false, not, ◌&&◌, ◌||◌, ◌≡◌, ℕ, zero, suc, ◌+◌, ◌-◌, ◌<◌, ◌≤◌, List, []}
+use Rattle.std.proofs.Common.{◌∷◌, Option, Some, None, length, refl, sym, ap, subst, ◌∙◌, arith, if◌then◌else◌, cond}
 use Rattle.std.proofs.lemmas.Bool.Decides.{nat_tests}
 use Rattle.pat_tree.specs.declared.nodes.Item.{Item}
 use Rattle.match_items.specs.Scene.{Scene}
@@ -84,25 +85,29 @@ module _ (g : Scene) (item : Item) where
   tests_from : (p q n : ℕ) → p ≡ q → step_tests g item p ≡ n → step_tests g item q ≡ n
   tests_from p q n e h = let P : ℕ → Type 0 = λ m. step_tests g item m ≡ n in subst P e h
 
-  pub places_are : (k n : ℕ) (most : Option ℕ) (p : ℕ) → k ≤ n → Allows most k → ((j : ℕ) → j < k → after_item g item (p + j) ≡ Some (p + j + 1)) → Stops g item most n k p
+  pub places_are : (k n : ℕ) (most : Option ℕ) (p : ℕ) → k ≤ n → Allows most k
+      → ((j : ℕ) → j < k → after_item g item (p + j) ≡ Some (p + j + 1)) → Stops g item most n k p
       → run_places g item n most p ≡ places_after p k
   unfolding run_places places_after
   places_are zero zero most p le allows each stops = refl
   places_are zero (suc n) most p le allows each (all_seen e) = absurd (omega arith)
   places_are zero (suc n) most p le allows each (maximum_reached e) =
-      ap (λ b. turn b (after_item g item p) (run_places g item n (one_less most))) (ap is_none_left (sym (less_zero most)) ∙ e)
+      ap (λ b. turn b (after_item g item p) (run_places g item n (one_less most)))
+      (ap is_none_left (sym (less_zero most)) ∙ e)
   places_are zero (suc n) most p le allows each (not_taken e) =
       ap (λ o. turn (is_none_left most) o (run_places g item n (one_less most))) (none_from (p + 0) p (omega arith) e)
       ∙ turn_none (is_none_left most) (run_places g item n (one_less most))
   places_are (suc k) zero most p le allows each stops = absurd (omega arith)
   places_are (suc k) (suc n) most p le allows each stops =
       ap (λ b. turn b (after_item g item p) (run_places g item n (one_less most))) (one_less-left most k allows)
-      ∙ ap (λ o. turn false o (run_places g item n (one_less most))) (next_from (p + 0) p (omega arith) (each 0 (omega arith)))
+      ∙ ap (λ o. turn false o (run_places g item n (one_less most)))
+      (next_from (p + 0) p (omega arith) (each 0 (omega arith)))
       ∙ ap (λ qs. (p + 1) ∷ qs)
       (places_are k n (one_less most) (p + 1) (omega arith) (one_less-allows most k allows)
       (λ j h. next_from (p + suc j) (p + 1 + j) (omega arith) (each (suc j) (omega arith))) (later k n most p stops))
     where
-      later : (k n : ℕ) (most : Option ℕ) (p : ℕ) → Stops g item most (suc n) (suc k) p → Stops g item (one_less most) n k (p + 1)
+      later : (k n : ℕ) (most : Option ℕ) (p : ℕ) → Stops g item most (suc n) (suc k) p
+          → Stops g item (one_less most) n k (p + 1)
       later k n most p (all_seen e) = all_seen (omega arith)
       later k n most p (maximum_reached e) = maximum_reached (ap is_none_left (one_less-less most k) ∙ e)
       later k n most p (not_taken e) = not_taken (none_from (p + suc k) (p + 1 + k) (omega arith) e)
@@ -115,38 +120,50 @@ module _ (g : Scene) (item : Item) where
       ap (λ (m : Option ℕ). not (is_none_left m) && item_reaches g item p) (sym (less_zero most))
       ∙ ap (λ q. not (is_none_left (less most 0)) && item_reaches g item q) (omega arith)
   reaches_last (suc k) most p each =
-      ap (λ b. b || run_reaches g item (one_less most) (p + 1) (places_after (p + 1) k)) (reach_from false (p + 0) p (omega arith) (each 0 (omega arith)))
-      ∙ reaches_last k (one_less most) (p + 1) (λ j h. reach_from false (p + suc j) (p + 1 + j) (omega arith) (each (suc j) (omega arith)))
+      ap (λ b. b || run_reaches g item (one_less most) (p + 1) (places_after (p + 1) k))
+      (reach_from false (p + 0) p (omega arith) (each 0 (omega arith)))
+      ∙ reaches_last k (one_less most) (p + 1)
+      (λ j h. reach_from false (p + suc j) (p + 1 + j) (omega arith) (each (suc j) (omega arith)))
       ∙ ap (λ (m : Option ℕ). not (is_none_left m) && item_reaches g item (p + 1 + k)) (one_less-less most k)
       ∙ ap (λ q. not (is_none_left (less most (suc k))) && item_reaches g item q) (omega arith)
 
   -- where one of them does
-  pub reaches_some : (k : ℕ) (most : Option ℕ) (p j : ℕ) → j < k → item_reaches g item (p + j) ≡ true → run_reaches g item most p (places_after p k) ≡ true
+  pub reaches_some : (k : ℕ) (most : Option ℕ) (p j : ℕ) → j < k → item_reaches g item (p + j) ≡ true
+      → run_reaches g item most p (places_after p k) ≡ true
   unfolding run_reaches places_after
   reaches_some zero most p j h e = absurd (omega arith)
   reaches_some (suc k) most p zero h e =
-      ap (λ b. b || run_reaches g item (one_less most) (p + 1) (places_after (p + 1) k)) (reach_from true (p + 0) p (omega arith) e)
+      ap (λ b. b || run_reaches g item (one_less most) (p + 1) (places_after (p + 1) k))
+      (reach_from true (p + 0) p (omega arith) e)
   reaches_some (suc k) most p (suc j) h e =
-      ap (λ b. item_reaches g item p || b) (reaches_some k (one_less most) (p + 1) j (omega arith) (reach_from true (p + suc j) (p + 1 + j) (omega arith) e))
+      ap (λ b. item_reaches g item p || b) (reaches_some k (one_less most) (p + 1) j (omega arith)
+      (reach_from true (p + suc j) (p + 1 + j) (omega arith) e))
       ∙ or_true (item_reaches g item p)
 
   -- an item that is no class tests none
-  pub no_tests : (ps : List ℕ) (most : Option ℕ) (p : ℕ) → ((q : ℕ) → step_tests g item q ≡ 0) → run_tests g item most p ps ≡ 0
+  pub no_tests : (ps : List ℕ) (most : Option ℕ) (p : ℕ) → ((q : ℕ) → step_tests g item q ≡ 0)
+      → run_tests g item most p ps ≡ 0
   unfolding run_tests
   no_tests [] most p none = ap (λ n. if is_none_left most then 0 else n) (none p) ∙ either_zero (is_none_left most)
   no_tests (q ∷ qs) most p none = omega (arith, none p, no_tests qs (one_less most) q none)
 
   -- a class tests each character of the run, and maybe one more
   pub tests_of_run : (k : ℕ) (most : Option ℕ) (p : ℕ) → ((j : ℕ) → j < k → step_tests g item (p + j) ≡ 1)
-      → run_tests g item most p (places_after p k) ≡ k + (if is_none_left (less most k) then 0 else step_tests g item (p + k))
+      → run_tests g item most p (places_after p k) ≡ k + (if is_none_left (less most k) then 0 else step_tests g item
+      (p + k))
   unfolding run_tests places_after
   tests_of_run zero most p each =
-      let first : (if is_none_left most then 0 else step_tests g item p) ≡ (if is_none_left (less most 0) then 0 else step_tests g item (p + 0)) =
-      ap (λ (m : Option ℕ). if is_none_left m then 0 else step_tests g item p) (sym (less_zero most)) ∙ ap (λ q. if is_none_left (less most 0) then 0 else step_tests g item q) (omega arith) in
+      let first : (if is_none_left most then 0 else step_tests g item p)
+      ≡ (if is_none_left (less most 0) then 0 else step_tests g item (p + 0)) =
+      ap (λ (m : Option ℕ). if is_none_left m then 0 else step_tests g item p) (sym (less_zero most))
+      ∙ ap (λ q. if is_none_left (less most 0) then 0 else step_tests g item q) (omega arith) in
       first ∙ omega arith
   tests_of_run (suc k) most p each =
       let one : step_tests g item p ≡ 1 = tests_from (p + 0) p 1 (omega arith) (each 0 (omega arith)) in
-      let others = tests_of_run k (one_less most) (p + 1) (λ j h. tests_from (p + suc j) (p + 1 + j) 1 (omega arith) (each (suc j) (omega arith))) in
-      let moved : (if is_none_left (less (one_less most) k) then 0 else step_tests g item (p + 1 + k)) ≡ (if is_none_left (less most (suc k)) then 0 else step_tests g item (p + suc k)) =
-      ap (λ (m : Option ℕ). if is_none_left m then 0 else step_tests g item (p + 1 + k)) (one_less-less most k) ∙ ap (λ q. if is_none_left (less most (suc k)) then 0 else step_tests g item q) (omega arith) in
+      let others = tests_of_run k (one_less most) (p + 1)
+      (λ j h. tests_from (p + suc j) (p + 1 + j) 1 (omega arith) (each (suc j) (omega arith))) in
+      let moved : (if is_none_left (less (one_less most) k) then 0 else step_tests g item (p + 1 + k))
+      ≡ (if is_none_left (less most (suc k)) then 0 else step_tests g item (p + suc k)) =
+      ap (λ (m : Option ℕ). if is_none_left m then 0 else step_tests g item (p + 1 + k)) (one_less-less most k)
+      ∙ ap (λ q. if is_none_left (less most (suc k)) then 0 else step_tests g item q) (omega arith) in
       omega (arith, one, others, moved)

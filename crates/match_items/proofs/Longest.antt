@@ -1,5 +1,6 @@
 -- The longest run of an item over bytes, up to the first one that it does not take, the end, or the maximum.
-use Rattle.std.proofs.Common.{Bool, true, false, not, ◌&&◌, ◌||◌, ◌==◌, ◌≡◌, ℕ, ◌+◌, ◌-◌, ◌<◌, ◌≤◌, Some, None, length, get_or, min, nat_lt, refl, sym, ap, subst, ◌∙◌, arith, if◌then◌else◌, inl, inr}
+use Rattle.std.proofs.Common.{Bool, true, false, not, ◌&&◌, ◌||◌, ◌==◌, ◌≡◌, ℕ, ◌+◌, ◌-◌, ◌<◌, ◌≤◌, Some, None}
+use Rattle.std.proofs.Common.{length, get_or, min, nat_lt, refl, sym, ap, subst, ◌∙◌, arith, if◌then◌else◌, inl, inr}
 use Rattle.std.proofs.Math.Bool.{and-false}
 use Rattle.std.proofs.lemmas.Bool.{cases_Bool, cases_lt}
 use Rattle.std.proofs.lemmas.Bool.Decides.{nat_tests}
@@ -7,11 +8,15 @@ use Rattle.byte_lanes.specs.Places.{IsLeast}
 use Rattle.pat_tree.specs.declared.nodes.Item.{Item}
 use Rattle.pat_tree.specs.declared.nodes.Item.TheVariants.{Char, AnyAll, NotNewline, Class}
 use Rattle.match_items.specs.Scene.{Scene, is_crlf}
-use Rattle.match_items.specs.Items.{is_none_left, is_end, is_half_newline, takes, after_item, item_reaches, longest_run, place_before, run_reaches}
+use Rattle.match_items.specs.Items.{is_none_left, is_end, is_half_newline, takes, after_item, item_reaches}
+use Rattle.match_items.specs.Items.{longest_run, place_before, run_reaches}
 use Rattle.match_items.specs.Views.{end_of, maximum, step_tests, run_tests, span_tests}
-use Rattle.match_items.proofs.OneItem.{is_end-before, is_end-at, after_item-before, after_item-end, item_reaches-no, if_taken}
+use Rattle.match_items.proofs.OneItem.{is_end-before, is_end-at, after_item-before, after_item-end, item_reaches-no}
+use Rattle.match_items.proofs.OneItem.{if_taken}
 use Rattle.match_items.proofs.Places.{place_before-less}
-use Rattle.match_items.proofs.ItemRuns.{places_after, less, Allows, Stops, maximum_reached, not_taken, places_are, reaches_last, reaches_some, no_tests, tests_of_run, length-places, end-places, or_true, or_false, either_zero}
+use Rattle.match_items.proofs.ItemRuns.{places_after, less, Allows, Stops, maximum_reached, not_taken, places_are}
+use Rattle.match_items.proofs.ItemRuns.{reaches_last, reaches_some, no_tests, tests_of_run, length-places}
+use Rattle.match_items.proofs.ItemRuns.{end-places, or_true, or_false, either_zero}
 
 -- a test that is not false
 holds_if : (b : Bool) → (b ≡ false → ⊥) → b ≡ true
@@ -22,7 +27,8 @@ allows_if : (b : Bool) (max k : ℕ) → k ≤ max → Allows (if b then None el
 allows_if true max k h = tt
 allows_if false max k h = h
 
-pub left_if : (b : Bool) (max k : ℕ) → (max == 4294967295) ≡ b → max ≤ 4294967295 → k < 4294967295 → k ≤ max → is_none_left (less (if b then None else Some max) k) ≡ not (nat_lt k max)
+pub left_if : (b : Bool) (max k : ℕ) → (max == 4294967295) ≡ b → max ≤ 4294967295 → k < 4294967295 → k ≤ max
+    → is_none_left (less (if b then None else Some max) k) ≡ not (nat_lt k max)
 left_if true max k e few short h =
     let below : nat_lt k max ≡ true = grind (arith, nat_tests) in
     sym (ap not below)
@@ -78,7 +84,8 @@ module _ (g : Scene) (item : Item) (max p limit to : ℕ) (f : Found g item max 
   reach_at b q r e h = let P : ℕ → Type 0 = λ n. item_reaches g item n ≡ b in subst P e h
 
   pub none_left : is_none_left (less (maximum max) (to - p)) ≡ not (nat_lt (to - p) max)
-  none_left = let h = to_end in let few = f.short in left_if (max == 4294967295) max (to - p) refl f.few (omega arith) to_most
+  none_left = let h = to_end in let few = f.short in left_if (max == 4294967295) max (to - p) refl f.few (omega arith)
+      to_most
 
   -- at a limit before the end the maximum is reached
   full : limit ≤ to → limit < length g.subject → is_none_left (less (maximum max) (to - p)) ≡ true
@@ -97,7 +104,8 @@ module _ (g : Scene) (item : Item) (max p limit to : ℕ) (f : Found g item max 
   each_taken : (j : ℕ) → j < to - p → after_item g item (p + j) ≡ Some (p + j + 1)
   each_taken j h =
       let t = to_end in
-      let taken : takes g item (p + j) (get_or g.subject (p + j) 0) ≡ true = holds_if _ (f.least.before (p + j) (omega arith) (omega arith)) in
+      let taken : takes g item (p + j) (get_or g.subject (p + j) 0) ≡ true =
+      holds_if _ (f.least.before (p + j) (omega arith) (omega arith)) in
       after_item-before g item (p + j) f.bytes (omega arith) ∙ ap (λ b. if_taken b (p + j + 1)) taken
 
   none_from : after_item g item to ≡ None → after_item g item (p + (to - p)) ≡ None
@@ -107,7 +115,8 @@ module _ (g : Scene) (item : Item) (max p limit to : ℕ) (f : Found g item max 
   stops = elim (cases_lt to limit) [
     | inl before ↦ (
         let b = f.bound in
-        not_taken (none_from (after_item-before g item to f.bytes (omega arith) ∙ ap (λ t. if_taken t (to + 1)) (f.least.holds before)))
+        not_taken (none_from (after_item-before g item to f.bytes (omega arith)
+        ∙ ap (λ t. if_taken t (to + 1)) (f.least.holds before)))
         )
     | inr at ↦ elim (cases_lt limit (length g.subject)) [
       | inl inner ↦ maximum_reached (full at inner)
@@ -118,7 +127,8 @@ module _ (g : Scene) (item : Item) (max p limit to : ℕ) (f : Found g item max 
   pub run_is : longest_run g item (maximum max) p ≡ places_after p (to - p)
   run_is =
       let t = to_end in
-      places_are g item (to - p) (length g.subject) (maximum max) p (omega arith) (allows_if (max == 4294967295) max (to - p) to_most) each_taken stops
+      places_are g item (to - p) (length g.subject) (maximum max) p (omega arith)
+      (allows_if (max == 4294967295) max (to - p) to_most) each_taken stops
 
   pub count_is : to - p ≡ length (longest_run g item (maximum max) p)
   count_is = sym (ap length run_is ∙ length-places p (to - p))
@@ -132,7 +142,9 @@ module _ (g : Scene) (item : Item) (max p limit to : ℕ) (f : Found g item max 
       reaches_last g item (to - p) (maximum max) p (λ j h. early g item (p + j) (omega arith))
       ∙ elim (cases_lt to limit) [
         | inl before ↦ (
-            ap (λ b. not (is_none_left (less (maximum max) (to - p))) && b) (reach_at false to (p + (to - p)) (sym whole) (item_reaches-no g item to (get_or g.subject to 0) inner (f.least.holds before)))
+            ap (λ b. not (is_none_left (less (maximum max) (to - p))) && b)
+            (reach_at false to (p + (to - p)) (sym whole)
+            (item_reaches-no g item to (get_or g.subject to 0) inner (f.least.holds before)))
             ∙ and-false (not (is_none_left (less (maximum max) (to - p))))
             )
         | inr at ↦ (
@@ -142,14 +154,17 @@ module _ (g : Scene) (item : Item) (max p limit to : ℕ) (f : Found g item max 
       ]
 
   -- one that stops at the end reaches it by the test there, where no earlier test does
-  last_only : length g.subject ≤ to → ((j : ℕ) → j < to - p → item_reaches g item (p + j) ≡ false) → run_reaches g item (maximum max) p (places_after p (to - p)) ≡ nat_lt (to - p) max
+  last_only : length g.subject ≤ to → ((j : ℕ) → j < to - p → item_reaches g item (p + j) ≡ false)
+      → run_reaches g item (maximum max) p (places_after p (to - p)) ≡ nat_lt (to - p) max
   last_only ends each =
       reaches_last g item (to - p) (maximum max) p each
-      ∙ ap (λ b. not (is_none_left (less (maximum max) (to - p))) && b) (reach_at true to (p + (to - p)) (sym whole) (at_the_end g item to ends))
+      ∙ ap (λ b. not (is_none_left (less (maximum max) (to - p))) && b)
+      (reach_at true to (p + (to - p)) (sym whole) (at_the_end g item to ends))
       ∙ ap (λ b. not b && true) none_left
       ∙ twice_not (nat_lt (to - p) max)
 
-  by_last : length g.subject ≤ to → (nat_lt (to - p) max || nat_lt p to && item_reaches g item (to - 1)) ≡ run_reaches g item (maximum max) p (places_after p (to - p))
+  by_last : length g.subject ≤ to → (nat_lt (to - p) max || nat_lt p to && item_reaches g item (to - 1)) ≡ run_reaches
+      g item (maximum max) p (places_after p (to - p))
   by_last ends = elim (cases_lt p to) [
     | inr none ↦ (
         let no : nat_lt p to ≡ false = grind (arith, nat_tests) in
@@ -162,7 +177,8 @@ module _ (g : Scene) (item : Item) (max p limit to : ℕ) (f : Found g item max 
         before ∙ elim (cases_Bool (item_reaches g item (to - 1))) [
           | inl reached ↦ (
               ap (λ b. nat_lt (to - p) max || b) reached ∙ or_true (nat_lt (to - p) max)
-              ∙ sym (reaches_some g item (to - p) (maximum max) p (to - 1 - p) (omega arith) (reach_at true (to - 1) (p + (to - 1 - p)) (omega arith) reached))
+              ∙ sym (reaches_some g item (to - p) (maximum max) p (to - 1 - p) (omega arith)
+              (reach_at true (to - 1) (p + (to - 1 - p)) (omega arith) reached))
               )
           | inr missed ↦ (
               let t = to_end in
@@ -176,7 +192,8 @@ module _ (g : Scene) (item : Item) (max p limit to : ℕ) (f : Found g item max 
         )
   ]
 
-  at_end_by_byte : (is_end g to && (nat_lt (to - p) max || nat_lt p to && item_reaches g item (to - 1))) ≡ run_reaches g item (maximum max) p (longest_run g item (maximum max) p)
+  at_end_by_byte : (is_end g to && (nat_lt (to - p) max || nat_lt p to && item_reaches g item (to - 1))) ≡ run_reaches
+      g item (maximum max) p (longest_run g item (maximum max) p)
   at_end_by_byte = elim (cases_lt to (length g.subject)) [
     | inl inner ↦ (
         ap (λ b. b && (nat_lt (to - p) max || nat_lt p to && item_reaches g item (to - 1))) (is_end-before g to inner)
@@ -188,8 +205,10 @@ module _ (g : Scene) (item : Item) (max p limit to : ℕ) (f : Found g item max 
         )
   ]
 
-  pub at_end_is : (is_end g to && (nat_lt (to - p) max || nat_lt p to && item_reaches g item (place_before g to))) ≡ run_reaches g item (maximum max) p (longest_run g item (maximum max) p)
-  at_end_is = ap (λ q. is_end g to && (nat_lt (to - p) max || nat_lt p to && item_reaches g item q)) (place_before-less g to f.bytes) ∙ at_end_by_byte
+  pub at_end_is : (is_end g to && (nat_lt (to - p) max || nat_lt p to && item_reaches g item (place_before g to)))
+      ≡ run_reaches g item (maximum max) p (longest_run g item (maximum max) p)
+  at_end_is = ap (λ q. is_end g to && (nat_lt (to - p) max || nat_lt p to && item_reaches g item q))
+      (place_before-less g to f.bytes) ∙ at_end_by_byte
 
 -- the test at a place, which is made before the end alone, and the last one, where the maximum is not reached
 abbrev unless : Bool → ℕ → ℕ
@@ -199,20 +218,25 @@ abbrev as_one : Bool → ℕ
 as_one b = if b then 1 else 0
 
 class_tests : (g : Scene) (n max p limit to : ℕ) → Found g (Class n) max p limit to
-    → (to - p) + (if nat_lt to limit then 1 else 0) ≡ run_tests g (Class n) (maximum max) p (longest_run g (Class n) (maximum max) p)
+    → (to - p) + (if nat_lt to limit then 1 else 0) ≡ run_tests g (Class n) (maximum max) p
+    (longest_run g (Class n) (maximum max) p)
 class_tests g n max p limit to f =
     let b = f.bound in
     let low = f.least.low in
     let high = f.least.high in
     let whole : p + (to - p) ≡ to = omega arith in
     let done = is_none_left (less (maximum max) (to - p)) in
-    let run : run_tests g (Class n) (maximum max) p (longest_run g (Class n) (maximum max) p) ≡ (to - p) + unless done (unless (is_end g (p + (to - p))) 1) =
+    let run : run_tests g (Class n) (maximum max) p (longest_run g (Class n) (maximum max) p) ≡ (to - p) + unless done
+    (unless (is_end g (p + (to - p))) 1) =
     ap (run_tests g (Class n) (maximum max) p) (run_is g (Class n) max p limit to f)
-    ∙ tests_of_run g (Class n) (to - p) (maximum max) p (λ j h. ap (λ e. unless e 1) (is_end-before g (p + j) (omega arith))) in
+    ∙ tests_of_run g (Class n) (to - p) (maximum max) p
+    (λ j h. ap (λ e. unless e 1) (is_end-before g (p + j) (omega arith))) in
     let last : as_one (nat_lt to limit) ≡ unless done (unless (is_end g to) 1) = elim (cases_lt to limit) [
       | inl before ↦ (
           let yes : nat_lt to limit ≡ true = grind (arith, nat_tests) in
-          ap as_one yes ∙ sym (ap (λ e. unless e (unless (is_end g to) 1)) (not_full g (Class n) max p limit to f before) ∙ ap (λ e. unless e 1) (is_end-before g to (omega arith)))
+          ap as_one yes ∙ sym (ap (λ e. unless e (unless (is_end g to) 1))
+          (not_full g (Class n) max p limit to f before)
+          ∙ ap (λ e. unless e 1) (is_end-before g to (omega arith)))
           )
       | inr at ↦ (
           let no : nat_lt to limit ≡ false = grind (arith, nat_tests) in
@@ -224,7 +248,8 @@ class_tests g n max p limit to f =
     ] in
     ap (λ m. (to - p) + m) last ∙ ap (λ q. (to - p) + unless done (unless (is_end g q) 1)) (sym whole) ∙ sym run
 
-no_class_tests : (g : Scene) (item : Item) (max p : ℕ) → ((q : ℕ) → step_tests g item q ≡ 0) → 0 ≡ run_tests g item (maximum max) p (longest_run g item (maximum max) p)
+no_class_tests : (g : Scene) (item : Item) (max p : ℕ) → ((q : ℕ) → step_tests g item q ≡ 0)
+    → 0 ≡ run_tests g item (maximum max) p (longest_run g item (maximum max) p)
 no_class_tests g item max p none = sym (no_tests g item (longest_run g item (maximum max) p) (maximum max) p none)
 
 pub tests_are : (g : Scene) (item : Item) (max p limit to : ℕ) → Found g item max p limit to

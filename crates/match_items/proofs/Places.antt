@@ -1,5 +1,7 @@
 -- Places before and after what is taken, outside UTF.
-use Rattle.std.proofs.Common.{◌≡◌, ◌∙◌, ℕ, zero, suc, ◌+◌, ◌-◌, ◌<◌, ◌≤◌, Bool, true, false, List, [], ◌∷◌, Some, None, length, take, drop, slice_range, nat_lt, refl, sym, ap, arith, inl, inr, length-drop, length-take, get_or, ◌==◌, chars, sum_by}
+use Rattle.std.proofs.Common.{◌≡◌, ◌∙◌, ℕ, zero, suc, ◌+◌, ◌-◌, ◌<◌, ◌≤◌, Bool, true, false, List, [], ◌∷◌, Some}
+use Rattle.std.proofs.Common.{None, length, take, drop, slice_range, nat_lt, refl, sym, ap, arith, inl, inr}
+use Rattle.std.proofs.Common.{length-drop, length-take, get_or, ◌==◌, chars, sum_by}
 use Rattle.std.proofs.lemmas.Bool.{cases_Bool, cases_lt, and_parts, ltb-true}
 use Rattle.byte_lanes.specs.Newlines.{stands, longest, newline_texts}
 use Rattle.pat_tree.specs.declared.nodes.Item.{Item}
@@ -28,7 +30,8 @@ taken_at true p q e = cc
 taken_at false p q e = cc
 
 -- an item goes one byte forward, within the subject
-pub item_forward : (g : Scene) (item : Item) (p q : ℕ) → g.options.utf ≡ false → p ≤ length g.subject → after_item g item p ≡ Some q →
+pub item_forward : (g : Scene) (item : Item) (p q : ℕ) → g.options.utf ≡ false → p ≤ length g.subject
+    → after_item g item p ≡ Some q →
     (p < q) × (q ≤ length g.subject) × (place_before g q ≡ p)
 item_forward g item p q bytes within e = elim (cases_lt p (length g.subject)) [
   | inl h ↦
@@ -40,7 +43,8 @@ item_forward g item p q bytes within e = elim (cases_lt p (length g.subject)) [
 ]
 
 -- a text that stands ends within the bytes
-stands_within : (text bytes : List ℕ) (p : ℕ) → p ≤ length bytes → stands text bytes p ≡ true → p + length text ≤ length bytes
+stands_within : (text bytes : List ℕ) (p : ℕ) → p ≤ length bytes → stands text bytes p ≡ true
+    → p + length text ≤ length bytes
 unfolding stands
 stands_within [] bytes p within e = omega arith
 stands_within (b ∷ text) bytes p within e =
@@ -50,7 +54,8 @@ stands_within (b ∷ text) bytes p within e =
     let rest : (p + 1) + length text ≤ length bytes = stands_within text bytes (p + 1) (omega arith) later.1 in
     omega (arith, rest)
 
-longest_within : (texts : List (List ℕ)) (bytes : List ℕ) (p : ℕ) → p ≤ length bytes → p + longest texts bytes p ≤ length bytes
+longest_within : (texts : List (List ℕ)) (bytes : List ℕ) (p : ℕ) → p ≤ length bytes
+    → p + longest texts bytes p ≤ length bytes
 longest_within [] bytes p within = omega arith
 longest_within (text ∷ texts) bytes p within =
     let later = longest_within texts bytes p within in
@@ -63,7 +68,8 @@ longest_within (text ∷ texts) bytes p within =
 pub break_within : (g : Scene) (p q : ℕ) → p ≤ length g.subject → after_break g p ≡ Some q → q ≤ length g.subject
 break_within g p q within e =
     let to : p + break_len g p ≡ q = taken_at _ _ q (sym (told_break g p (break_len g p) refl) ∙ e) in
-    let bound : p + break_len g p ≤ length g.subject = longest_within (newline_texts (break_kind g.options.bsr g.options.utf)) g.subject p within in
+    let bound : p + break_len g p ≤ length g.subject =
+    longest_within (newline_texts (break_kind g.options.bsr g.options.utf)) g.subject p within in
     omega (arith, to, bound)
 
 characters_are : (g : Scene) (bytes : List ℕ) → g.options.utf ≡ false → characters g bytes ≡ bytes
@@ -73,7 +79,8 @@ width_is : (g : Scene) (cs : List ℕ) → g.options.utf ≡ false → width g c
 width_is g cs e = ap (λ (utf : Bool). elim utf as (λ _. ℕ) [ true ↦ sum_by len_utf8 cs | false ↦ length cs ]) e
 
 -- a text that stands again ends within the subject
-pub ref_within : (g : Scene) (from to p q : ℕ) (caseless : Bool) → g.options.utf ≡ false → p ≤ length g.subject → after_ref g from to caseless p ≡ Some q → q ≤ length g.subject
+pub ref_within : (g : Scene) (from to p q : ℕ) (caseless : Bool) → g.options.utf ≡ false → p ≤ length g.subject
+    → after_ref g from to caseless p ≡ Some q → q ≤ length g.subject
 ref_within g from to p q caseless bytes within e =
     let ys : List ℕ = characters g (drop p g.subject) in
     let n : ℕ = length (characters g (slice_range g.subject from to)) in

@@ -1,5 +1,7 @@
 -- The longest run of an item, one character after another.
-use Rattle.std.proofs.Common.{Bool, true, false, not, ◌&&◌, ◌||◌, ◌==◌, ◌≡◌, ℕ, zero, suc, ◌+◌, ◌-◌, ◌<◌, ◌≤◌, List, [], ◌∷◌, Option, Some, None, length, take, drop, nat_lt, refl, sym, ap, ◌∙◌, arith, if◌then◌else◌, cond, inl, inr}
+use Rattle.std.proofs.Common.{Bool, true, false, not, ◌&&◌, ◌||◌, ◌==◌, ◌≡◌, ℕ, zero, suc, ◌+◌, ◌-◌, ◌<◌, ◌≤◌, List}
+use Rattle.std.proofs.Common.{[], ◌∷◌, Option, Some, None, length, take, drop, nat_lt, refl, sym, ap, ◌∙◌, arith}
+use Rattle.std.proofs.Common.{if◌then◌else◌, cond, inl, inr}
 use Rattle.std.proofs.lemmas.Bool.{cases_lt}
 use Rattle.std.proofs.lemmas.Bool.Decides.{nat_tests}
 use Rattle.std.proofs.lemmas.Str.{len_utf8_bounds}
@@ -8,9 +10,11 @@ use Rattle.pat_tree.specs.declared.nodes.Item.{Item}
 use Rattle.pat_tree.specs.declared.nodes.Item.TheVariants.{Char, AnyAll, NotNewline, Class}
 use Rattle.uni_text.specs.Characters.{char_at, char_before, first_char, last_char}
 use Rattle.match_items.specs.Scene.{Scene}
-use Rattle.match_items.specs.Items.{is_end, is_none_left, one_less, takes, after_item, item_reaches, run_places, longest_run, run_reaches, place_before}
+use Rattle.match_items.specs.Items.{is_end, is_none_left, one_less, takes, after_item, item_reaches, run_places}
+use Rattle.match_items.specs.Items.{longest_run, run_reaches, place_before}
 use Rattle.match_items.specs.Views.{end_of, maximum, step_tests, run_tests, IsWalk}
-use Rattle.match_items.proofs.OneItem.{if_taken, is_end-before, is_end-at, after_item-at, after_item-end, item_reaches-no}
+use Rattle.match_items.proofs.OneItem.{if_taken, is_end-before, is_end-at, after_item-at, after_item-end}
+use Rattle.match_items.proofs.OneItem.{item_reaches-no}
 use Rattle.match_items.proofs.ItemRuns.{less, either_zero}
 use Rattle.match_items.proofs.Longest.{early, at_the_end, left_if}
 
@@ -27,7 +31,10 @@ taken_of false p q e = cc
 pub goes_forward : (g : Scene) (item : Item) (p q : ℕ) → after_item g item p ≡ Some q → (p < q) × (p < length g.subject)
 goes_forward g item p q e = elim (cases_lt p (length g.subject)) [
   | inl h ↦
-      let to : (char_at g.options.utf g.subject p).1 ≡ q = taken_of (takes g item p (char_at g.options.utf g.subject p).0) (char_at g.options.utf g.subject p).1 q (sym (after_item-at g item p (char_at g.options.utf g.subject p).0 (char_at g.options.utf g.subject p).1 h refl) ∙ e) in
+      let to : (char_at g.options.utf g.subject p).1 ≡ q =
+      taken_of (takes g item p (char_at g.options.utf g.subject p).0) (char_at g.options.utf g.subject p).1 q
+      (sym (after_item-at g item p (char_at g.options.utf g.subject p).0 (char_at g.options.utf g.subject p).1 h
+      refl) ∙ e) in
       let less : p < (char_at g.options.utf g.subject p).1 = char_forward g.options.utf g.subject p in
       (omega (arith, to, less), h)
   | inr h ↦ let none : None ≡ Some q = sym (after_item-end g item p h) ∙ e in cc
@@ -49,21 +56,30 @@ turn_none false f = refl
 
 module _ (g : Scene) (item : Item) where
   -- how many places are allowed for doesn't count, if they reach the end
-  enough : (n m : ℕ) (most : Option ℕ) (p : ℕ) → length g.subject - p ≤ n → length g.subject - p ≤ m → run_places g item n most p ≡ run_places g item m most p
+  enough : (n m : ℕ) (most : Option ℕ) (p : ℕ) → length g.subject - p ≤ n → length g.subject - p ≤ m
+      → run_places g item n most p ≡ run_places g item m most p
   unfolding run_places
   enough zero zero most p h k = refl
   enough zero (suc m) most p h k =
-      sym (ap (λ o. turn (is_none_left most) o (run_places g item m (one_less most))) (after_item-end g item p (omega arith)) ∙ turn_none (is_none_left most) (run_places g item m (one_less most)))
+      sym (ap (λ o. turn (is_none_left most) o (run_places g item m (one_less most)))
+      (after_item-end g item p (omega arith)) ∙ turn_none (is_none_left most)
+      (run_places g item m (one_less most)))
   enough (suc n) zero most p h k =
-      ap (λ o. turn (is_none_left most) o (run_places g item n (one_less most))) (after_item-end g item p (omega arith)) ∙ turn_none (is_none_left most) (run_places g item n (one_less most))
+      ap (λ o. turn (is_none_left most) o (run_places g item n (one_less most)))
+      (after_item-end g item p (omega arith)) ∙ turn_none (is_none_left most)
+      (run_places g item n (one_less most))
   enough (suc n) (suc m) most p h k =
-      turn_same (is_none_left most) (after_item g item p) (run_places g item n (one_less most)) (run_places g item m (one_less most))
-      (λ q e. let forward = goes_forward g item p q e in enough n m (one_less most) q (omega (arith, forward.0, forward.1)) (omega (arith, forward.0, forward.1)))
+      turn_same (is_none_left most) (after_item g item p) (run_places g item n (one_less most))
+      (run_places g item m (one_less most))
+      (λ q e. let forward = goes_forward g item p q e in
+      enough n m (one_less most) q (omega (arith, forward.0, forward.1)) (omega (arith, forward.0, forward.1)))
 
-  one_more : (n : ℕ) (most : Option ℕ) (p q : ℕ) → is_none_left most ≡ false → after_item g item p ≡ Some q → run_places g item (suc n) most p ≡ q ∷ run_places g item n (one_less most) q
+  one_more : (n : ℕ) (most : Option ℕ) (p q : ℕ) → is_none_left most ≡ false → after_item g item p ≡ Some q
+      → run_places g item (suc n) most p ≡ q ∷ run_places g item n (one_less most) q
   unfolding run_places
   one_more n most p q left e =
-      ap (λ b. turn b (after_item g item p) (run_places g item n (one_less most))) left ∙ ap (λ o. turn false o (run_places g item n (one_less most))) e
+      ap (λ b. turn b (after_item g item p) (run_places g item n (one_less most))) left
+      ∙ ap (λ o. turn false o (run_places g item n (one_less most))) e
 
   no_more : (n : ℕ) (most : Option ℕ) (p : ℕ) → is_none_left most ≡ true → run_places g item n most p ≡ []
   unfolding run_places
@@ -73,15 +89,18 @@ module _ (g : Scene) (item : Item) where
   not_one : (n : ℕ) (most : Option ℕ) (p : ℕ) → after_item g item p ≡ None → run_places g item n most p ≡ []
   unfolding run_places
   not_one zero most p e = refl
-  not_one (suc n) most p e = ap (λ o. turn (is_none_left most) o (run_places g item n (one_less most))) e ∙ turn_none (is_none_left most) (run_places g item n (one_less most))
+  not_one (suc n) most p e = ap (λ o. turn (is_none_left most) o (run_places g item n (one_less most))) e
+      ∙ turn_none (is_none_left most) (run_places g item n (one_less most))
 
-  longest_next : (most : Option ℕ) (p q : ℕ) → is_none_left most ≡ false → after_item g item p ≡ Some q → longest_run g item most p ≡ q ∷ longest_run g item (one_less most) q
+  longest_next : (most : Option ℕ) (p q : ℕ) → is_none_left most ≡ false → after_item g item p ≡ Some q
+      → longest_run g item most p ≡ q ∷ longest_run g item (one_less most) q
   longest_next most p q left e =
       let forward = goes_forward g item p q e in
       let some : length g.subject ≡ suc (length g.subject - 1) = omega (arith, forward.1) in
       ap (λ n. run_places g item n most p) some
       ∙ one_more (length g.subject - 1) most p q left e
-      ∙ ap (λ qs. q ∷ qs) (enough (length g.subject - 1) (length g.subject) (one_less most) q (omega (arith, forward.0)) (omega arith))
+      ∙ ap (λ qs. q ∷ qs) (enough (length g.subject - 1) (length g.subject) (one_less most) q
+      (omega (arith, forward.0)) (omega arith))
 
   -- Along a run: k characters from p on are taken, up to q, with so many tests of classes.
 
@@ -90,9 +109,11 @@ module _ (g : Scene) (item : Item) where
     pub few : k ≤ q
     pub count : length (longest_run g item most p) ≡ k + length (longest_run g item (less most k) q)
     pub to : end_of p (longest_run g item most p) ≡ end_of q (longest_run g item (less most k) q)
-    pub tested : run_tests g item most p (longest_run g item most p) ≡ tests + run_tests g item (less most k) q (longest_run g item (less most k) q)
+    pub tested : run_tests g item most p (longest_run g item most p) ≡ tests + run_tests g item (less most k) q
+        (longest_run g item (less most k) q)
     pub reached : run_reaches g item most p (longest_run g item most p)
-        ≡ (nat_lt p q && item_reaches g item (place_before g q) || run_reaches g item (less most k) q (longest_run g item (less most k) q))
+        ≡ (nat_lt p q && item_reaches g item (place_before g q) || run_reaches g item (less most k) q
+        (longest_run g item (less most k) q))
 
   less_none : (most : Option ℕ) → less most 0 ≡ most
   less_none None = refl
@@ -109,29 +130,36 @@ module _ (g : Scene) (item : Item) where
   along_start most p = record {
     ordered = omega arith;
     few = omega arith;
-    count = let e : length (longest_run g item most p) ≡ length (longest_run g item (less most 0) p) = ap (λ m. length (longest_run g item m p)) (sym (less_none most)) in omega (arith, e);
+    count = let e : length (longest_run g item most p) ≡ length (longest_run g item (less most 0) p) =
+        ap (λ m. length (longest_run g item m p)) (sym (less_none most)) in omega (arith, e);
     to = ap (λ m. end_of p (longest_run g item m p)) (sym (less_none most));
     tested =
-        let e : run_tests g item most p (longest_run g item most p) ≡ run_tests g item (less most 0) p (longest_run g item (less most 0) p) =
+        let e : run_tests g item most p (longest_run g item most p) ≡ run_tests g item (less most 0) p
+        (longest_run g item (less most 0) p) =
         ap (λ m. run_tests g item m p (longest_run g item m p)) (sym (less_none most)) in
         omega (arith, e);
     reached = ap (λ m. run_reaches g item m p (longest_run g item m p)) (sym (less_none most))
-        ∙ sym (ap (λ b. b && item_reaches g item (place_before g p) || run_reaches g item (less most 0) p (longest_run g item (less most 0) p)) (no_less p));
+        ∙ sym (ap (λ b. b && item_reaches g item (place_before g p) || run_reaches g item (less most 0) p
+        (longest_run g item (less most 0) p)) (no_less p));
   }
 
-  tests_next : (most : Option ℕ) (p q : ℕ) (qs : List ℕ) → run_tests g item most p (q ∷ qs) ≡ step_tests g item p + run_tests g item (one_less most) q qs
+  tests_next : (most : Option ℕ) (p q : ℕ) (qs : List ℕ)
+      → run_tests g item most p (q ∷ qs) ≡ step_tests g item p + run_tests g item (one_less most) q qs
   unfolding run_tests
   tests_next most p q qs = refl
 
-  reaches_next : (most : Option ℕ) (p q : ℕ) (qs : List ℕ) → run_reaches g item most p (q ∷ qs) ≡ (item_reaches g item p || run_reaches g item (one_less most) q qs)
+  reaches_next : (most : Option ℕ) (p q : ℕ) (qs : List ℕ)
+      → run_reaches g item most p (q ∷ qs) ≡ (item_reaches g item p || run_reaches g item (one_less most) q qs)
   unfolding run_reaches
   reaches_next most p q qs = refl
 
-  tests_none : (most : Option ℕ) (p : ℕ) → run_tests g item most p [] ≡ (if is_none_left most then 0 else step_tests g item p)
+  tests_none : (most : Option ℕ) (p : ℕ) → run_tests g item most p
+      [] ≡ (if is_none_left most then 0 else step_tests g item p)
   unfolding run_tests
   tests_none most p = refl
 
-  reaches_none : (most : Option ℕ) (p : ℕ) → run_reaches g item most p [] ≡ (not (is_none_left most) && item_reaches g item p)
+  reaches_none : (most : Option ℕ) (p : ℕ) → run_reaches g item most p
+      [] ≡ (not (is_none_left most) && item_reaches g item p)
   unfolding run_reaches
   reaches_none most p = refl
 
@@ -154,7 +182,8 @@ module _ (g : Scene) (item : Item) where
         ap (λ b. b && item_reaches g item (place_before g q)) no
   ]
 
-  pub along_next : (most : Option ℕ) (p k q tests r : ℕ) → IsAlong most p k q tests → is_none_left (less most k) ≡ false → q < length g.subject →
+  pub along_next : (most : Option ℕ) (p k q tests r : ℕ) → IsAlong most p k q tests
+      → is_none_left (less most k) ≡ false → q < length g.subject →
       after_item g item q ≡ Some r → place_before g r ≡ q → IsAlong most p (k + 1) r (tests + step_tests g item q)
   along_next most p k q tests r a left inside e back =
       let forward = goes_forward g item q r e in
@@ -162,9 +191,12 @@ module _ (g : Scene) (item : Item) where
       let is : longest_run g item m q ≡ r ∷ longest_run g item (one_less m) r = longest_next m q r left e in
       let longer : one_less m ≡ less most (k + 1) = less_more most k in
       let some : nat_lt p r ≡ true = let o = a.ordered in grind (arith, nat_tests) in
-      let counted : length (longest_run g item m q) ≡ suc (length (longest_run g item (less most (k + 1)) r)) = ap length is ∙ ap (λ n. suc (length (longest_run g item n r))) longer in
-      let tried : run_tests g item m q (longest_run g item m q) ≡ step_tests g item q + run_tests g item (less most (k + 1)) r (longest_run g item (less most (k + 1)) r) =
-      ap (run_tests g item m q) is ∙ tests_next m q r (longest_run g item (one_less m) r) ∙ ap (λ n. step_tests g item q + run_tests g item n r (longest_run g item n r)) longer in
+      let counted : length (longest_run g item m q) ≡ suc (length (longest_run g item (less most (k + 1)) r)) =
+      ap length is ∙ ap (λ n. suc (length (longest_run g item n r))) longer in
+      let tried : run_tests g item m q (longest_run g item m q) ≡ step_tests g item q + run_tests g item
+      (less most (k + 1)) r (longest_run g item (less most (k + 1)) r) =
+      ap (run_tests g item m q) is ∙ tests_next m q r (longest_run g item (one_less m) r)
+      ∙ ap (λ n. step_tests g item q + run_tests g item n r (longest_run g item n r)) longer in
       record {
         ordered = let o = a.ordered in omega (arith, forward.0);
         few = let o = a.few in omega (arith, forward.0);
@@ -175,15 +207,18 @@ module _ (g : Scene) (item : Item) where
             ∙ ap (λ b. b || run_reaches g item m q (longest_run g item m q)) (earlier p q inside)
             ∙ ap (run_reaches g item m q) is ∙ reaches_next m q r (longest_run g item (one_less m) r)
             ∙ ap (λ n. item_reaches g item q || run_reaches g item n r (longest_run g item n r)) longer
-            ∙ ap (λ x. item_reaches g item x || run_reaches g item (less most (k + 1)) r (longest_run g item (less most (k + 1)) r)) (sym back)
-            ∙ ap (λ b. b && item_reaches g item (place_before g r) || run_reaches g item (less most (k + 1)) r (longest_run g item (less most (k + 1)) r)) (sym some);
+            ∙ ap (λ x. item_reaches g item x || run_reaches g item (less most (k + 1)) r
+            (longest_run g item (less most (k + 1)) r)) (sym back)
+            ∙ ap (λ b. b && item_reaches g item (place_before g r) || run_reaches g item (less most (k + 1)) r
+            (longest_run g item (less most (k + 1)) r)) (sym some);
       }
 
   -- the run ends there: the maximum is reached, the subject ends, or the next character isn't taken
   pub data Ends (most : Option ℕ) (q : ℕ) : Type 0 where
     full : is_none_left most ≡ true → Ends most q
     at_end : is_none_left most ≡ false → length g.subject ≤ q → Ends most q
-    refused : is_none_left most ≡ false → q < length g.subject → after_item g item q ≡ None → item_reaches g item q ≡ false → Ends most q
+    refused : is_none_left most ≡ false → q < length g.subject → after_item g item q ≡ None
+        → item_reaches g item q ≡ false → Ends most q
 
   pub step_tests-end : (q : ℕ) → length g.subject ≤ q → step_tests g item q ≡ 0
   step_tests-end q h = by_item item
@@ -204,40 +239,50 @@ module _ (g : Scene) (item : Item) where
     none_left = none_after (less (maximum max) k) q ends
 
     pub ends_count : k ≡ length (longest_run g item (maximum max) p)
-    ends_count = let n : length (longest_run g item (less (maximum max) k) q) ≡ 0 = ap length none_left in omega (arith, a.count, n)
+    ends_count = let n : length (longest_run g item (less (maximum max) k) q) ≡ 0 = ap length none_left in
+        omega (arith, a.count, n)
 
     pub ends_to : q ≡ end_of p (longest_run g item (maximum max) p)
     ends_to = sym (a.to ∙ ap (end_of q) none_left)
 
-    last_tests : run_tests g item (less (maximum max) k) q (longest_run g item (less (maximum max) k) q) ≡ (if is_none_left (less (maximum max) k) then 0 else step_tests g item q)
+    last_tests : run_tests g item (less (maximum max) k) q (longest_run g item (less (maximum max) k) q)
+        ≡ (if is_none_left (less (maximum max) k) then 0 else step_tests g item q)
     last_tests = ap (run_tests g item (less (maximum max) k) q) none_left ∙ tests_none (less (maximum max) k) q
 
     -- no test is made where the maximum is reached or the subject ends
-    pub ends_tested : step_tests g item q ≡ 0 → tests ≡ run_tests g item (maximum max) p (longest_run g item (maximum max) p)
+    pub ends_tested : step_tests g item q ≡ 0 → tests ≡ run_tests g item (maximum max) p
+        (longest_run g item (maximum max) p)
     ends_tested none =
         let last : run_tests g item (less (maximum max) k) q (longest_run g item (less (maximum max) k) q) ≡ 0 =
-        last_tests ∙ ap (λ n. if is_none_left (less (maximum max) k) then 0 else n) none ∙ either_zero (is_none_left (less (maximum max) k)) in
+        last_tests ∙ ap (λ n. if is_none_left (less (maximum max) k) then 0 else n) none
+        ∙ either_zero (is_none_left (less (maximum max) k)) in
         omega (arith, a.tested, last)
 
-    pub full_tested : is_none_left (less (maximum max) k) ≡ true → tests ≡ run_tests g item (maximum max) p (longest_run g item (maximum max) p)
+    pub full_tested : is_none_left (less (maximum max) k) ≡ true
+        → tests ≡ run_tests g item (maximum max) p (longest_run g item (maximum max) p)
     full_tested e =
         let last : run_tests g item (less (maximum max) k) q (longest_run g item (less (maximum max) k) q) ≡ 0 =
         last_tests ∙ ap (λ (b : Bool). if b then 0 else step_tests g item q) e in
         omega (arith, a.tested, last)
 
-    pub refused_tested : is_none_left (less (maximum max) k) ≡ false → tests + step_tests g item q ≡ run_tests g item (maximum max) p (longest_run g item (maximum max) p)
+    pub refused_tested : is_none_left (less (maximum max) k) ≡ false
+        → tests + step_tests g item q ≡ run_tests g item (maximum max) p (longest_run g item (maximum max) p)
     refused_tested e =
-        let last : run_tests g item (less (maximum max) k) q (longest_run g item (less (maximum max) k) q) ≡ step_tests g item q =
+        let last : run_tests g item (less (maximum max) k) q (longest_run g item (less (maximum max) k) q)
+        ≡ step_tests g item q =
         last_tests ∙ ap (λ (b : Bool). if b then 0 else step_tests g item q) e in
         omega (arith, a.tested, last)
 
     reached_is : run_reaches g item (maximum max) p (longest_run g item (maximum max) p)
-        ≡ (nat_lt p q && item_reaches g item (place_before g q) || (not (is_none_left (less (maximum max) k)) && item_reaches g item q))
-    reached_is = a.reached ∙ ap (λ b. nat_lt p q && item_reaches g item (place_before g q) || b) (ap (run_reaches g item (less (maximum max) k) q) none_left ∙ reaches_none (less (maximum max) k) q)
+        ≡ (nat_lt p q && item_reaches g item (place_before g q)
+        || (not (is_none_left (less (maximum max) k)) && item_reaches g item q))
+    reached_is = a.reached ∙ ap (λ b. nat_lt p q && item_reaches g item (place_before g q) || b)
+        (ap (run_reaches g item (less (maximum max) k) q) none_left ∙ reaches_none (less (maximum max) k) q)
 
     told : (fewer : Bool) → is_none_left (less (maximum max) k) ≡ not fewer →
         (is_end g q && (fewer || nat_lt p q && item_reaches g item (place_before g q)))
-        ≡ (nat_lt p q && item_reaches g item (place_before g q) || (not (is_none_left (less (maximum max) k)) && item_reaches g item q))
+        ≡ (nat_lt p q && item_reaches g item (place_before g q)
+        || (not (is_none_left (less (maximum max) k)) && item_reaches g item q))
     told fewer e = elim (cases_lt q (length g.subject)) [
       | inl inside ↦
           ap (λ b. b && (fewer || nat_lt p q && item_reaches g item (place_before g q))) (is_end-before g q inside)
@@ -249,15 +294,19 @@ module _ (g : Scene) (item : Item) where
           ap (λ b. b && (fewer || nat_lt p q && item_reaches g item (place_before g q))) (is_end-at g q past)
           ∙ turned fewer (nat_lt p q && item_reaches g item (place_before g q))
           ∙ sym (
-          ap (λ b. nat_lt p q && item_reaches g item (place_before g q) || (not (is_none_left (less (maximum max) k)) && b)) (at_the_end g item q past)
+          ap (λ b. nat_lt p q && item_reaches g item (place_before g q)
+          || (not (is_none_left (less (maximum max) k)) && b)) (at_the_end g item q past)
           ∙ ap (λ b. nat_lt p q && item_reaches g item (place_before g q) || (not b && true)) e
           )
     ]
       where
-        stopped : q < length g.subject → Ends (less (maximum max) k) q → (not (is_none_left (less (maximum max) k)) && item_reaches g item q) ≡ false
+        stopped : q < length g.subject → Ends (less (maximum max) k) q
+            → (not (is_none_left (less (maximum max) k)) && item_reaches g item q) ≡ false
         stopped inside (full e) = ap (λ b. not b && item_reaches g item q) e
         stopped inside (at_end left past) = absurd (omega arith)
-        stopped inside (refused left before none unreached) = ap (λ b. not (is_none_left (less (maximum max) k)) && b) unreached ∙ and-false (not (is_none_left (less (maximum max) k)))
+        stopped inside (refused left before none unreached) =
+            ap (λ b. not (is_none_left (less (maximum max) k)) && b) unreached
+            ∙ and-false (not (is_none_left (less (maximum max) k)))
 
         turned : (f x : Bool) → (f || x) ≡ (x || (not (not f) && true))
         turned true true = refl
@@ -266,14 +315,16 @@ module _ (g : Scene) (item : Item) where
         turned false false = refl
 
     pub ends_reach : length g.subject < 4294967295 → max ≤ 4294967295 → k ≤ max → q ≤ length g.subject →
-        (is_end g q && (nat_lt k max || nat_lt p q && item_reaches g item (place_before g q))) ≡ run_reaches g item (maximum max) p (longest_run g item (maximum max) p)
+        (is_end g q && (nat_lt k max || nat_lt p q && item_reaches g item (place_before g q))) ≡ run_reaches g item
+        (maximum max) p (longest_run g item (maximum max) p)
     ends_reach short few most within =
         let k_few = a.few in
         told (nat_lt k max) (left_if (max == 4294967295) max k refl few (omega arith) most) ∙ sym reached_is
 
   -- What a loop over characters meets.
 
-  pub some_left : (max k : ℕ) → max ≤ 4294967295 → k < 4294967295 → k < max → is_none_left (less (maximum max) k) ≡ false
+  pub some_left : (max k : ℕ) → max ≤ 4294967295 → k < 4294967295 → k < max
+      → is_none_left (less (maximum max) k) ≡ false
   some_left max k few short h =
       let more : nat_lt k max ≡ true = grind (arith, nat_tests) in
       left_if (max == 4294967295) max k refl few short (omega arith) ∙ ap not more
@@ -283,11 +334,14 @@ module _ (g : Scene) (item : Item) where
       let no_more : nat_lt k max ≡ false = grind (arith, nat_tests) in
       left_if (max == 4294967295) max k refl few short (omega arith) ∙ ap not no_more
 
-  pub refused_at : (most : Option ℕ) (q c r : ℕ) → is_none_left most ≡ false → q < length g.subject → (c, r) ≡ char_at g.options.utf g.subject q → takes g item q c ≡ false → Ends most q
+  pub refused_at : (most : Option ℕ) (q c r : ℕ) → is_none_left most ≡ false → q < length g.subject
+      → (c, r) ≡ char_at g.options.utf g.subject q → takes g item q c ≡ false → Ends most q
   refused_at most q c r left inside is e =
-      refused left inside (after_item-at g item q c r inside is ∙ ap (λ b. if_taken b r) e) (item_reaches-no g item q c inside e)
+      refused left inside (after_item-at g item q c r inside is ∙ ap (λ b. if_taken b r) e)
+      (item_reaches-no g item q c inside e)
 
-  pub taken_at : (q c r : ℕ) → q < length g.subject → (c, r) ≡ char_at g.options.utf g.subject q → takes g item q c ≡ true → after_item g item q ≡ Some r
+  pub taken_at : (q c r : ℕ) → q < length g.subject → (c, r) ≡ char_at g.options.utf g.subject q
+      → takes g item q c ≡ true → after_item g item q ≡ Some r
   taken_at q c r inside is e = after_item-at g item q c r inside is ∙ ap (λ b. if_taken b r) e
 
   pub few_tests : (q : ℕ) → step_tests g item q ≤ 1
@@ -304,7 +358,8 @@ module _ (g : Scene) (item : Item) where
       by_item (Class n) = one_at_most (is_end g q)
 
   pub walk_of : (max p k q tests : ℕ) → IsAlong (maximum max) p k q tests → Ends (less (maximum max) k) q →
-      length g.subject < 4294967295 → max ≤ 4294967295 → k ≤ max → q ≤ length g.subject → IsWalk g item max p (record { count = k; to = q })
+      length g.subject < 4294967295 → max ≤ 4294967295 → k ≤ max → q ≤ length g.subject
+      → IsWalk g item max p (record { count = k; to = q })
   walk_of max p k q tests a ends short few most within = record {
     count = ends_count max p k q tests a ends;
     to = ends_to max p k q tests a ends;

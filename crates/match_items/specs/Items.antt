@@ -1,10 +1,13 @@
 -- What one item, a reference or a simple assertion does at a place, and whether it reaches the subject's end.
-use Rattle.std.specs.Prelude.{ℕ, zero, suc, ◌+◌, ◌-◌, Bool, true, false, ◌&&◌, ◌||◌, not, List, [], ◌∷◌, length, take, drop, Option, Some, None, ◌==◌, nat_lt, nat_le, min, sum_by, chars, slice_index, slice_range, option_map}
+use Rattle.std.specs.Prelude.{ℕ, zero, suc, ◌+◌, ◌-◌, Bool, true, false, ◌&&◌, ◌||◌, not, List, [], ◌∷◌, length}
+use Rattle.std.specs.Prelude.{take, drop, Option, Some, None, ◌==◌, nat_lt, nat_le, min, sum_by, chars, slice_index}
+use Rattle.std.specs.Prelude.{slice_range, option_map}
 use Rattle.std.specs.Char.{len_utf8}
 use Rattle.pat_tree.specs.declared.nodes.Item.{Item}
 use Rattle.pat_tree.specs.declared.nodes.Item.TheVariants.{Char, AnyAll, NotNewline, Class}
 use Rattle.pat_tree.specs.declared.nodes.AnchorKind.{AnchorKind}
-use Rattle.pat_tree.specs.declared.nodes.AnchorKind.TheVariants.{Caret, Dollar, SubjectStart, SubjectEnd, EndOrNewline, StartGiven, Word, NotWord}
+use Rattle.pat_tree.specs.declared.nodes.AnchorKind.TheVariants.{Caret, Dollar, SubjectStart, SubjectEnd}
+use Rattle.pat_tree.specs.declared.nodes.AnchorKind.TheVariants.{EndOrNewline, StartGiven, Word, NotWord}
 use Rattle.pat_tree.specs.Newlines.{end_kind, break_kind}
 use Rattle.byte_lanes.specs.Newlines.{newline_len, newline_before_len}
 use Rattle.uni_text.specs.Ascii.{ascii_fold, is_word_char}
@@ -87,7 +90,8 @@ module _ (g : Scene) where
 
   -- Runs of one item.
 
-  -- the places after one character, after two and so on, as far as the item takes them and a maximum goes; n bounds their number
+  -- the places after one character, after two and so on, as far as the item takes them and a maximum goes; n bounds
+  -- their number
   unfoldable pub run_places : Item → ℕ → Option ℕ → ℕ → List ℕ
   run_places item zero most p = []
   run_places item (suc n) most p =
@@ -100,7 +104,8 @@ module _ (g : Scene) where
   abbrev pub longest_run : Item → Option ℕ → ℕ → List ℕ
   longest_run item most p = run_places item (length g.subject) most p
 
-  -- some test of a run reaches the end: those at p and at the places after it but the last, and at the last one where the maximum is not reached
+  -- some test of a run reaches the end: those at p and at the places after it but the last, and at the last one where
+  -- the maximum is not reached
   unfoldable pub run_reaches : Item → Option ℕ → ℕ → List ℕ → Bool
   run_reaches item most p [] = not (is_none_left most) && item_reaches item p
   run_reaches item most p (q ∷ qs) = item_reaches item p || run_reaches item (one_less most) q qs

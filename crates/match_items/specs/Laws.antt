@@ -12,7 +12,8 @@ use Rattle.pat_tree.specs.declared.nodes.Item.{Item}
 
 -- seen through a tree's table, a class holds of what the tree's class takes
 abbrev pub TablesShowClasses : Type 0
-TablesShowClasses = (tree : TreeParts) (table : List CharSet) (view : View) → IsTableOf tree table → text_scene view table ≡ record (text_scene view table) { class_has = class_has tree }
+TablesShowClasses = (tree : TreeParts) (table : List CharSet) (view : View) → IsTableOf tree table
+    → text_scene view table ≡ record (text_scene view table) { class_has = class_has tree }
 
 -- In a subject that can be looked at, what takes characters goes from place to place: an item
 -- forward by one character, which the place before its end is the begin of; `\R` and references by

@@ -1,5 +1,6 @@
 -- Worked rows: items, `\R`, references and simple assertions at a place, and where they reach the subject's end.
-use Rattle.std.specs.Prelude.{◌≡◌, ℕ, ◌+◌, Bool, true, false, cond, ◌&&◌, ◌==◌, nat_le, List, [], ◌∷◌, map, codes, Some, None}
+use Rattle.std.specs.Prelude.{◌≡◌, ℕ, ◌+◌, Bool, true, false, cond, ◌&&◌, ◌==◌, nat_le, List, [], ◌∷◌, map, codes}
+use Rattle.std.specs.Prelude.{Some, None}
 use Rattle.std.specs.List.{range_with_len}
 use Prim.Native.String.{String}
 use Rattle.pat_tree.specs.declared.options.TheConstants.Options as plain
@@ -11,7 +12,8 @@ use Rattle.pat_tree.specs.declared.nodes.Item.TheVariants.{Char, AnyAll, NotNewl
 use Rattle.pat_tree.specs.declared.nodes.AnchorKind.{AnchorKind}
 use Rattle.pat_tree.specs.declared.nodes.AnchorKind.TheVariants.{Caret, Dollar, EndOrNewline, Word}
 use Rattle.match_items.specs.Scene.{Scene}
-use Rattle.match_items.specs.Items.{after_item, item_reaches, longest_run, run_reaches, after_break, break_reaches, after_ref, ref_reaches, holds, anchor_reaches, earliest, places_back}
+use Rattle.match_items.specs.Items.{after_item, item_reaches, longest_run, run_reaches, after_break, break_reaches}
+use Rattle.match_items.specs.Items.{after_ref, ref_reaches, holds, anchor_reaches, earliest, places_back}
 
 -- a subject in a convention, in UTF or not
 abbrev pub scene : Newline → Bool → List ℕ → Scene
@@ -67,7 +69,8 @@ pub record BreakRows : Type 0 where
   pub breaks : map (after_break (returns Lf)) (range_with_len 0 4) ≡ Some 2 ∷ Some 2 ∷ Some 3 ∷ None ∷ []
   pub reached : map (break_reaches (returns Lf)) (range_with_len 0 4) ≡ false ∷ false ∷ true ∷ true ∷ []
   pub form_feed : after_break (scene Lf false (12 ∷ [])) 0 ≡ Some 1
-  pub no_form_feed : after_break (record (scene Lf false (12 ∷ [])) { options = record plain.PLAIN { bsr = bsr.AnyCrLf } }) 0 ≡ None
+  pub no_form_feed : after_break
+      (record (scene Lf false (12 ∷ [])) { options = record plain.PLAIN { bsr = bsr.AnyCrLf } }) 0 ≡ None
   pub separator : after_break (scene Lf true (0xE2 ∷ 0x80 ∷ 0xA8 ∷ [])) 0 ≡ Some 3
 
 pub record ReferenceRows : Type 0 where
@@ -93,7 +96,8 @@ pub record AnchorRows : Type 0 where
   pub line_ends : where_holds (bytes "a\nb\n") (Dollar true true) 5 ≡ false ∷ true ∷ false ∷ true ∷ true ∷ []
   -- on CR, LF, CR
   pub crlf_line : where_holds (returns CrLf) (Caret true) 4 ≡ true ∷ false ∷ true ∷ false ∷ []
-  pub crlf_end : where_holds (scene CrLf false (97 ∷ 13 ∷ 10 ∷ [])) (Dollar false false) 4 ≡ false ∷ true ∷ false ∷ true ∷ []
+  pub crlf_end : where_holds (scene CrLf false (97 ∷ 13 ∷ 10 ∷ [])) (Dollar false false)
+      4 ≡ false ∷ true ∷ false ∷ true ∷ []
   pub half : anchor_reaches (returns CrLf) (Dollar false false) 2 ≡ true
   pub words : where_holds (bytes "a b") (Word false) 4 ≡ true ∷ true ∷ true ∷ true ∷ []
   pub wide_words : where_holds wide (Word true) 1 ≡ true ∷ []

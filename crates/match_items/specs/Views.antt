@@ -1,5 +1,6 @@
 -- What a view shows, and how the answers of the tests are told.
-use Rattle.std.specs.Prelude.{◌≡◌, ℕ, ◌+◌, ◌-◌, Bool, true, false, ◌==◌, ◌&&◌, ◌||◌, nat_lt, length, if◌then◌else◌, List, [], ◌∷◌, Option, Some, None, slice_index}
+use Rattle.std.specs.Prelude.{◌≡◌, ℕ, ◌+◌, ◌-◌, Bool, true, false, ◌==◌, ◌&&◌, ◌||◌, nat_lt, length, if◌then◌else◌}
+use Rattle.std.specs.Prelude.{List, [], ◌∷◌, Option, Some, None, slice_index}
 use Rattle.pat_tree.specs.declared.nodes.Item.{Item}
 use Rattle.pat_tree.specs.declared.nodes.Item.TheVariants.{Class, AnyAll, NotNewline}
 use Rattle.uni_text.specs.Ascii.{ascii_fold}
@@ -12,7 +13,8 @@ use Rattle.match_items.specs.declared.walks.Walk.{Walk}
 use Rattle.match_items.specs.declared.view.Taken.{Taken}
 use Rattle.match_items.specs.declared.view.Taken.TheVariants.{Took, No, AtEnd}
 use Rattle.match_items.specs.Scene.{Scene}
-use Rattle.match_items.specs.Items.{is_end, is_none_left, one_less, item_reaches, longest_run, place_before, run_reaches}
+use Rattle.match_items.specs.Items.{is_end, is_none_left, one_less, item_reaches, longest_run, place_before}
+use Rattle.match_items.specs.Items.{run_reaches}
 
 -- a character's folding: in UTF the simple one of Unicode, and outside it that of ASCII's letters
 abbrev pub fold_in : Bool → ℕ → ℕ

@@ -2,7 +2,8 @@
 ghost use Rattle.std.specs.Prelude.{◌≡◌, ◌<◌, ◌≤◌, ◌||◌, true, false, length};
 ghost use Rattle.match_items.specs.Subjects.{IsText, IsTextPlace};
 ghost use Rattle.match_items.specs.Items as items;
-ghost use Rattle.match_items.specs.Items.{after_break, break_reaches, holds, anchor_reaches, is_close, is_boundary, is_word_at, next, previous};
+ghost use Rattle.match_items.specs.Items.{after_break, break_reaches, holds, anchor_reaches, is_close, is_boundary};
+ghost use Rattle.match_items.specs.Items.{is_word_at, next, previous};
 ghost use Rattle.match_items.specs.Views.{bare_text, told};
 
 use crate::view::{Held, Taken, View};

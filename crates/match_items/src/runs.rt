@@ -1,5 +1,6 @@
 //! Runs of one item.
-ghost use Rattle.std.specs.Prelude.{◌≡◌, ◌+◌, ◌-◌, ◌<◌, ◌≤◌, ◌==◌, ◌&&◌, ◌||◌, All, false, nat_lt, length, slice_index, if◌then◌else◌};
+ghost use Rattle.std.specs.Prelude.{◌≡◌, ◌+◌, ◌-◌, ◌<◌, ◌≤◌, ◌==◌, ◌&&◌, ◌||◌, All, false, nat_lt, length};
+ghost use Rattle.std.specs.Prelude.{slice_index, if◌then◌else◌};
 ghost use Rattle.byte_lanes.specs.Newlines.{newline_len};
 ghost use Rattle.byte_lanes.specs.Places.{IsLeast};
 ghost use Rattle.pat_tree.specs.Newlines.{end_kind};

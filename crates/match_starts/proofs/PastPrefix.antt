@@ -1,6 +1,7 @@
 -- What the single items that a pattern's branches begin with tell of a place.
 use mathlib.Core.Path.{fun_ext}
-use Rattle.std.proofs.Common.{◌≡◌, ℕ, ℤ, zero, suc, ◌+◌, ◌<◌, ◌≤◌, Bool, true, false, ◌&&◌, List, [], ◌∷◌, length, map, drop, replicate, Option, Some, None, refl, sym, ap, ◌∙◌, arith}
+use Rattle.std.proofs.Common.{◌≡◌, ℕ, ℤ, zero, suc, ◌+◌, ◌<◌, ◌≤◌, Bool, true, false, ◌&&◌, List, [], ◌∷◌, length}
+use Rattle.std.proofs.Common.{map, drop, replicate, Option, Some, None, refl, sym, ap, ◌∙◌, arith}
 use Rattle.std.specs.Prelude.{not, ◌==◌, slice_index_or}
 use Rattle.std.proofs.lemmas.Bool.{le-leb}
 use Rattle.std.proofs.lemmas.List.{at_drop_more, drop_all, length-map}
@@ -19,12 +20,15 @@ use Rattle.match_items.specs.Items.{after_item, item_reaches}
 use Rattle.match_items.specs.Views.{text_scene, fold_in}
 use Rattle.frame_board.specs.Ready.{setting_for}
 use Rattle.frame_board.specs.frame_state.Stops.{admitted, refused_as_empty, refused_by_end}
-use Rattle.ordered_search.specs.Stream.{State, Stream, Search, reached, accepted, first_state, ends, by_halt, too_many_units, state, ◌▸◌, nothing, each, and_then, catch, is_next_branch, ◌or_else◌}
+use Rattle.ordered_search.specs.Stream.{State, Stream, Search, reached, accepted, first_state, ends, by_halt}
+use Rattle.ordered_search.specs.Stream.{too_many_units, state, ◌▸◌, nothing, each, and_then, catch, is_next_branch}
+use Rattle.ordered_search.specs.Stream.{◌or_else◌}
 use Rattle.ordered_search.specs.Setting.{Setting, lower_of, match_limit, held}
 use Rattle.ordered_search.specs.Tests.{goes_to, move_to, run_one}
 use Rattle.ordered_search.specs.Parts.{Searches, in_order, choices, branches, run_group}
 use Rattle.ordered_search.specs.Run.{level, levels, run}
-use Rattle.ordered_search.specs.PlaceAnswer.{Exhausted, Failed, Matched, PlaceAnswer, Walked, outcome, answers, walk, place_answer}
+use Rattle.ordered_search.specs.PlaceAnswer.{Exhausted, Failed, Matched, PlaceAnswer, Walked, outcome, answers, walk}
+use Rattle.ordered_search.specs.PlaceAnswer.{place_answer}
 use Rattle.search_needs.proofs.Bounded.{unreached}
 use Rattle.match_starts.specs.Asked.{passed_over}
 use Rattle.match_starts.specs.Prefix.{AreBranches, IsFree, IsTold, items_tested, branch_tested, tested, row_of}
@@ -39,15 +43,18 @@ abbrev then_items : Scene → Row → Option ℕ → Tested
 then_items g ts None = Refused
 then_items g ts (Some q) = items_tested g ts q
 
-then_elim : (g : Scene) (ts : Row) (o : Option ℕ) → (elim o as (λ _. Tested) [ None ↦ Refused | Some q ↦ items_tested g ts q ]) ≡ then_items g ts o
+then_elim : (g : Scene) (ts : Row) (o : Option ℕ)
+    → (elim o as (λ _. Tested) [ None ↦ Refused | Some q ↦ items_tested g ts q ]) ≡ then_items g ts o
 then_elim g ts None = refl
 then_elim g ts (Some q) = refl
 
-one_tested : (g : Scene) (ts : Row) (item : Item) (p : ℕ) → items_tested g (more (one item) ts) p ≡ then_items g ts (after_item g item p)
+one_tested : (g : Scene) (ts : Row) (item : Item) (p : ℕ)
+    → items_tested g (more (one item) ts) p ≡ then_items g ts (after_item g item p)
 unfolding items_tested
 one_tested g ts item p = then_elim g ts (after_item g item p)
 
-other_open : (g : Scene) (trees : List Nested) (ts : Row) (p : ℕ) (n : Node) → ((item : Item) → n ≡ node.One item → ⊥) → items_tested g (more (nest trees n) ts) p ≡ Open
+other_open : (g : Scene) (trees : List Nested) (ts : Row) (p : ℕ) (n : Node) → ((item : Item) → n ≡ node.One item → ⊥)
+    → items_tested g (more (nest trees n) ts) p ≡ Open
 unfolding items_tested
 other_open g trees ts p (node.One item) h = absurd (h item refl)
 other_open g trees ts p n h = refl
@@ -58,8 +65,10 @@ module _ (g : Scene) (tree : TreeParts) (parts : List ℕ) (i p : ℕ) where
   unfolding items_tested
   past_parts past = ap (λ ks. items_tested g (row_of tree ks) p) (drop_all i parts past)
 
-  module _ (less : i < length parts) (n : Node) (is : nest (trees tree.nodes) n ≡ tree_at (trees tree.nodes) (slice_index_or parts i 0)) where
-    at_part : items_tested g (row_of tree (drop i parts)) p ≡ items_tested g (more (nest (trees tree.nodes) n) (row_of tree (drop (i + 1) parts))) p
+  module _ (less : i < length parts) (n : Node)
+      (is : nest (trees tree.nodes) n ≡ tree_at (trees tree.nodes) (slice_index_or parts i 0)) where
+    at_part : items_tested g (row_of tree (drop i parts)) p ≡ items_tested g
+        (more (nest (trees tree.nodes) n) (row_of tree (drop (i + 1) parts))) p
     at_part =
         at_drop_more (λ ks. items_tested g (row_of tree ks) p) parts i 0 less
         ∙ ap (λ t. items_tested g (more t (row_of tree (drop (i + 1) parts))) p) (sym is)
@@ -68,7 +77,11 @@ module _ (g : Scene) (tree : TreeParts) (parts : List ℕ) (i p : ℕ) where
     at_other h = at_part ∙ other_open g (trees tree.nodes) (row_of tree (drop (i + 1) parts)) p n h
 
     pub at_item : (item : Item) → n ≡ node.One item → (o : Option ℕ) → o ≡ after_item g item p →
-        items_tested g (row_of tree (drop i parts)) p ≡ elim o [ None ↦ Refused | Some q ↦ items_tested g (row_of tree (drop (i + 1) parts)) q ]
+        items_tested g (row_of tree (drop i parts)) p ≡ elim o [
+          | None ↦ Refused
+          | Some q ↦
+              items_tested g (row_of tree (drop (i + 1) parts)) q
+        ]
     at_item item e o taken =
         at_part
         ∙ ap (λ m. items_tested g (more (nest (trees tree.nodes) m) (row_of tree (drop (i + 1) parts))) p) e
@@ -77,19 +90,23 @@ module _ (g : Scene) (tree : TreeParts) (parts : List ℕ) (i p : ℕ) where
         ∙ sym (then_elim g (row_of tree (drop (i + 1) parts)) o)
 
 -- what a branch tells, by its node
-module _ (g : Scene) (tree : TreeParts) (branch p : ℕ) (n : Node) (is : nest (trees tree.nodes) n ≡ tree_at (trees tree.nodes) branch) where
-  pub seq_tested : (parts : List ℕ) → n ≡ node.Seq parts → branch_tested g (tree_at (trees tree.nodes) branch) p ≡ items_tested g (row_of tree parts) p
+module _ (g : Scene) (tree : TreeParts) (branch p : ℕ) (n : Node)
+    (is : nest (trees tree.nodes) n ≡ tree_at (trees tree.nodes) branch) where
+  pub seq_tested : (parts : List ℕ) → n ≡ node.Seq parts
+      → branch_tested g (tree_at (trees tree.nodes) branch) p ≡ items_tested g (row_of tree parts) p
   unfolding branch_tested
   seq_tested parts e =
       ap (λ t. branch_tested g t p) (sym is)
       ∙ ap (λ m. branch_tested g (nest (trees tree.nodes) m) p) e
 
-  own_part : (m : Node) → ((parts : List ℕ) → m ≡ node.Seq parts → ⊥) → branch_tested g (nest (trees tree.nodes) m) p ≡ items_tested g (more (nest (trees tree.nodes) m) none) p
+  own_part : (m : Node) → ((parts : List ℕ) → m ≡ node.Seq parts → ⊥)
+      → branch_tested g (nest (trees tree.nodes) m) p ≡ items_tested g (more (nest (trees tree.nodes) m) none) p
   unfolding branch_tested
   own_part (node.Seq parts) h = absurd (h parts refl)
   own_part m h = refl
 
-  pub alone_tested : ((parts : List ℕ) → n ≡ node.Seq parts → ⊥) → branch_tested g (tree_at (trees tree.nodes) branch) p ≡ items_tested g (row_of tree (branch ∷ [])) p
+  pub alone_tested : ((parts : List ℕ) → n ≡ node.Seq parts → ⊥)
+      → branch_tested g (tree_at (trees tree.nodes) branch) p ≡ items_tested g (row_of tree (branch ∷ [])) p
   alone_tested h =
       ap (λ t. branch_tested g t p) (sym is)
       ∙ own_part n h
@@ -101,7 +118,8 @@ then_branches (Took q) later = Took q
 then_branches Refused later = later
 then_branches Open later = Open
 
-then_branch : (b later : Tested) → (elim b as (λ _. Tested) [ Took q ↦ Took q | Refused ↦ later | Open ↦ Open ]) ≡ then_branches b later
+then_branch : (b later : Tested) → (elim b as (λ _. Tested) [ Took q ↦ Took q | Refused ↦ later | Open ↦ Open ])
+    ≡ then_branches b later
 then_branch (Took q) later = refl
 then_branch Refused later = refl
 then_branch Open later = refl
@@ -112,7 +130,8 @@ stays (Took q) later h = refl
 stays Refused later h = absurd (h refl)
 stays Open later h = refl
 
-more_tested : (g : Scene) (t : Nested) (ts : Row) (p : ℕ) → tested g (more t ts) p ≡ then_branches (branch_tested g t p) (tested g ts p)
+more_tested : (g : Scene) (t : Nested) (ts : Row) (p : ℕ)
+    → tested g (more t ts) p ≡ then_branches (branch_tested g t p) (tested g ts p)
 unfolding tested
 more_tested g t ts p = then_branch (branch_tested g t p) (tested g ts p)
 
@@ -121,7 +140,8 @@ module _ (g : Scene) (tree : TreeParts) (parts : List ℕ) (i p : ℕ) where
   unfolding tested
   past_branches past = ap (λ ks. tested g (row_of tree ks) p) (drop_all i parts past)
 
-  pub at_branch : i < length parts → (b : Tested) → b ≡ branch_tested g (tree_at (trees tree.nodes) (slice_index_or parts i 0)) p →
+  pub at_branch : i < length parts → (b : Tested) → b ≡ branch_tested g
+      (tree_at (trees tree.nodes) (slice_index_or parts i 0)) p →
       tested g (row_of tree (drop i parts)) p ≡ then_branches b (tested g (row_of tree (drop (i + 1) parts)) p)
   at_branch less b is =
       at_drop_more (λ ks. tested g (row_of tree ks) p) parts i 0 less
@@ -198,7 +218,8 @@ module _ (g : Setting) (off : g.matching.«partial» ≡ Off) where
       ∙ nothing_after o (move_to q s)
       ∙ moved o q s
 
-  items_are : (below : Searches) (ts : Row) (s : State) (o : Option ℕ) → items_tested g.scene ts s.place ≡ settled o → in_order (levels g below ts) s ≡ goes_to o s
+  items_are : (below : Searches) (ts : Row) (s : State) (o : Option ℕ) → items_tested g.scene ts s.place ≡ settled o
+      → in_order (levels g below ts) s ≡ goes_to o s
   unfolding items_tested in_order levels level
   items_are below none s o e = ap (λ r. goes_to r s) (sym (settled_same s.place o e))
   items_are below (more (one item) ts) s o e =
@@ -207,15 +228,18 @@ module _ (g : Setting) (off : g.matching.«partial» ≡ Off) where
       (sym (one_tested g.scene ts item s.place) ∙ e) (λ q h. items_are below ts (move_to q s) o h)
   items_are below (more t ts) s o e = absurd (open_unsettled o e)
 
-  one_level : (below : Searches) (item : Item) (s : State) (o : Option ℕ) → items_tested g.scene (more (one item) none) s.place ≡ settled o → level g below (one item) s ≡ goes_to o s
+  one_level : (below : Searches) (item : Item) (s : State) (o : Option ℕ)
+      → items_tested g.scene (more (one item) none) s.place ≡ settled o → level g below (one item) s ≡ goes_to o s
   unfolding items_tested level
-  one_level below item s o e = one_is item s ∙ by_taken (after_item g.scene item s.place) (sym (one_tested g.scene none item s.place) ∙ e)
+  one_level below item s o e = one_is item s ∙ by_taken (after_item g.scene item s.place)
+      (sym (one_tested g.scene none item s.place) ∙ e)
     where
       by_taken : (r : Option ℕ) → then_items g.scene none r ≡ settled o → goes_to r s ≡ goes_to o s
       by_taken None e = ap (λ r. goes_to r s) (sym (settled_none o e))
       by_taken (Some q) e = ap (λ r. goes_to r s) (sym (settled_same q o e))
 
-  branch_is : (below : Searches) (t : Nested) (s : State) (o : Option ℕ) → branch_tested g.scene t s.place ≡ settled o → level g below t s ≡ goes_to o s
+  branch_is : (below : Searches) (t : Nested) (s : State) (o : Option ℕ) → branch_tested g.scene t s.place ≡ settled o
+      → level g below t s ≡ goes_to o s
   unfolding branch_tested items_tested level
   branch_is below (seq ts) s o e = items_are below ts s o e
   branch_is below (one item) s o e = one_level below item s o e
@@ -248,15 +272,18 @@ module _ (g : Setting) (off : g.matching.«partial» ≡ Off) where
   decided false true s w h = absurd (cc h)
   decided false false s w h = refl
 
-  pub match_told : (n p units q : ℕ) (x : Stream) → admitted g p q ≡ true → walk g n (state reached (move_to q (holding p units)) ▸ x) ≡ told_at p (Some q)
+  pub match_told : (n p units q : ℕ) (x : Stream) → admitted g p q ≡ true
+      → walk g n (state reached (move_to q (holding p units)) ▸ x) ≡ told_at p (Some q)
   unfolding walk
-  match_told n p units q x h = decided (refused_as_empty g p q) (refused_by_end g q) (move_to q (holding p units)) (walk g n x) h
+  match_told n p units q x h = decided (refused_as_empty g p q) (refused_by_end g q) (move_to q (holding p units))
+      (walk g n x) h
 
   none_told : (n p : ℕ) → walk g n nothing ≡ told_at p None
   unfolding walk
   none_told n p = refl
 
-  either_told : (n p units : ℕ) (x : Stream) (own o : Option ℕ) (later : Tested) → then_branches (settled own) later ≡ settled o →
+  either_told : (n p units : ℕ) (x : Stream) (own o : Option ℕ) (later : Tested)
+      → then_branches (settled own) later ≡ settled o →
       (later ≡ settled o → walk g n x ≡ told_at p o) → IsCounted p o →
       walk g n (goes_to own (holding p units) or_else x) ≡ told_at p o
   unfolding ◌or_else◌
@@ -271,10 +298,15 @@ module _ (g : Setting) (off : g.matching.«partial» ≡ Off) where
       ap (walk g n) (sym (nothing_after own (holding p 0)))
       ∙ either_told n p 0 nothing own o Refused e (λ r. none_told n p ∙ ap (told_at p) (sym (settled_none o r))) counted
 
-  pub has_unit : (s : State) (f : Search) → s.units + 1 ≤ g.matching.frame_limit → held g 1 s f ≡ f (record s { units = s.units + 1 })
+  pub has_unit : (s : State) (f : Search) → s.units + 1 ≤ g.matching.frame_limit
+      → held g 1 s f ≡ f (record s { units = s.units + 1 })
   unfolding held
   has_unit s f room =
-      ap (λ (b : Bool). elim b as (λ _. Stream) [ true ↦ f (record s { units = s.units + 1 }) | false ↦ ends (by_halt too_many_units) ])
+      ap (λ (b : Bool). elim b as (λ _. Stream) [
+        | true ↦ f (record s { units = s.units + 1 })
+        | false ↦
+            ends (by_halt too_many_units)
+      ])
       (le-leb (s.units + 1) g.matching.frame_limit room)
 
   none_tested : (p : ℕ) → tested g.scene none p ≡ Refused
@@ -286,25 +318,30 @@ module _ (g : Setting) (off : g.matching.«partial» ≡ Off) where
         walk g (suc n) (choices g (level g below t ∷ []) (first_state g.groups p)) ≡ told_at p o
     unfolding choices walk
     last_choice t n o e counted =
-        let parts = settles (branch_tested g.scene t p) Refused o (ap (then_branches (branch_tested g.scene t p)) (sym (none_tested p)) ∙ sym (more_tested g.scene t none p) ∙ e) in
+        let parts = settles (branch_tested g.scene t p) Refused o
+        (ap (then_branches (branch_tested g.scene t p)) (sym (none_tested p)) ∙ sym (more_tested g.scene t none p)
+        ∙ e) in
         ap (λ x. walk g n (catch is_next_branch x)) (branch_is below t (first_state g.groups p) parts.own parts.is)
         ∙ ap (walk g n) (caught parts.own (first_state g.groups p))
         ∙ last_told n p parts.own o parts.whole counted
 
-    choice_then : (t : Nested) (fs : Row) (f : Search) (fs' : List Search) (n : ℕ) (o : Option ℕ) → tested g.scene (more t fs) p ≡ settled o → IsCounted p o →
+    choice_then : (t : Nested) (fs : Row) (f : Search) (fs' : List Search) (n : ℕ) (o : Option ℕ)
+        → tested g.scene (more t fs) p ≡ settled o → IsCounted p o →
         (tested g.scene fs p ≡ settled o → walk g n (choices g (f ∷ fs') (first_state g.groups p)) ≡ told_at p o) →
         walk g (suc n) (choices g (level g below t ∷ f ∷ fs') (first_state g.groups p)) ≡ told_at p o
     unfolding choices walk
     choice_then t fs f fs' n o e counted later =
         let s = first_state g.groups p in
         let x = choices g (f ∷ fs') s in
-        let parts = settles (branch_tested g.scene t p) (tested g.scene fs p) o (sym (more_tested g.scene t fs p) ∙ e) in
+        let parts = settles (branch_tested g.scene t p) (tested g.scene fs p) o (sym (more_tested g.scene t fs p) ∙ e)
+        in
         ap (λ y. walk g n (y or_else x)) (has_unit s (λ t'. catch is_next_branch (level g below t t')) room)
         ∙ ap (λ y. walk g n (catch is_next_branch y or_else x)) (branch_is below t (holding p 1) parts.own parts.is)
         ∙ ap (λ y. walk g n (y or_else x)) (caught parts.own (holding p 1))
         ∙ either_told n p 1 x parts.own o (tested g.scene fs p) parts.whole later counted
 
-    choices_told : (ts : List Nested) (n : ℕ) (o : Option ℕ) → tested g.scene (row ts) p ≡ settled o → IsCounted p o → length ts ≤ n →
+    choices_told : (ts : List Nested) (n : ℕ) (o : Option ℕ) → tested g.scene (row ts) p ≡ settled o → IsCounted p o
+        → length ts ≤ n →
         walk g n (choices g (levels g below (row ts)) (first_state g.groups p)) ≡ told_at p o
     unfolding choices levels tested
     choices_told [] n o e counted few = none_told n p ∙ ap (told_at p) (sym (settled_none o e))
@@ -314,17 +351,21 @@ module _ (g : Setting) (off : g.matching.«partial» ≡ Off) where
         choice_then t (row (u ∷ ts)) (level g below u) (levels g below (row ts)) n o e counted
         (λ h. choices_told (u ∷ ts) n o h counted (omega (arith, few)))
 
-    branches_told : (ts : List Nested) (n : ℕ) (o : Option ℕ) → tested g.scene (row ts) p ≡ settled o → IsCounted p o → length ts ≤ n →
+    branches_told : (ts : List Nested) (n : ℕ) (o : Option ℕ) → tested g.scene (row ts) p ≡ settled o → IsCounted p o
+        → length ts ≤ n →
         walk g n (branches g (levels g below (row ts)) (first_state g.groups p)) ≡ told_at p o
     unfolding branches levels tested
     branches_told [] n o e counted few = none_told n p ∙ ap (told_at p) (sym (settled_none o e))
     branches_told (t ∷ []) n o e counted few =
-        let parts = settles (branch_tested g.scene t p) Refused o (ap (then_branches (branch_tested g.scene t p)) (sym (none_tested p)) ∙ sym (more_tested g.scene t none p) ∙ e) in
+        let parts = settles (branch_tested g.scene t p) Refused o
+        (ap (then_branches (branch_tested g.scene t p)) (sym (none_tested p)) ∙ sym (more_tested g.scene t none p)
+        ∙ e) in
         ap (walk g n) (branch_is below t (first_state g.groups p) parts.own parts.is)
         ∙ last_told n p parts.own o parts.whole counted
     branches_told (t ∷ u ∷ ts) n o e counted few = choices_told (t ∷ u ∷ ts) n o e counted few
 
-  place_told : (ts : List Nested) (p : ℕ) (o : Option ℕ) → g.whole ≡ group None (row ts) → tested g.scene (row ts) p ≡ settled o → IsCounted p o →
+  place_told : (ts : List Nested) (p : ℕ) (o : Option ℕ) → g.whole ≡ group None (row ts)
+      → tested g.scene (row ts) p ≡ settled o → IsCounted p o →
       length ts ≤ match_limit g → 1 ≤ g.matching.frame_limit → place_answer g p ≡ told_at p o
   unfolding run level run_group
   place_told ts p o is e counted few room =
@@ -338,7 +379,8 @@ pub scene_same : (tree : TreeParts) (table : List CharSet) (view : View) (answer
     → IsTableOf tree table → view.options.now ≡ tree.options →
     text_scene view table ≡ (setting_for tree view answers).scene
 scene_same tree table view answers h e =
-    ap (λ (has : ℕ → ℕ → Bool). record (text_scene view table) { class_has = has }) (fun_ext (λ n. fun_ext (λ c. h.answers n c)) ∙ class_told tree)
+    ap (λ (has : ℕ → ℕ → Bool). record (text_scene view table) { class_has = has })
+    (fun_ext (λ n. fun_ext (λ c. h.answers n c)) ∙ class_told tree)
     ∙ ap (λ (o : Options). record (setting_for tree view answers).scene { options = o; fold = fold_in o.utf }) e
 
 pub not_none : (parts : List ℕ) → (length parts == 0) ≡ false → 0 < length parts
@@ -346,8 +388,10 @@ not_none [] h = absurd (cc h)
 not_none (k ∷ ks) h = omega arith
 
 -- what the tests of a pattern's branches tell of a search
-pub branches_tell : (tree : TreeParts) (table : List CharSet) (view : View) (given : Block → ℤ) (parts : List ℕ) (p : ℕ) (b : Tested) →
-    IsTableOf tree table → view.options.now ≡ tree.options → AreBranches tree parts → 0 < length parts → IsFree view (length parts) →
+pub branches_tell : (tree : TreeParts) (table : List CharSet) (view : View) (given : Block → ℤ) (parts : List ℕ)
+    (p : ℕ) (b : Tested) →
+    IsTableOf tree table → view.options.now ≡ tree.options → AreBranches tree parts → 0 < length parts
+    → IsFree view (length parts) →
     b ≡ tested (text_scene view table) (row_of tree parts) p →
     ((q : ℕ) → b ≡ Took q → admitted (setting_for tree view passed_over) p q ≡ true) →
     IsTold b (setting_for tree view given) p
@@ -359,10 +403,12 @@ branches_tell tree table view given parts p b shown options are some free is cou
     places o e counted =
         let n = length-map parts (tree_at (trees tree.nodes)) in
         let steps = free.steps in
-        let limit : lower_of view.options.now.match_limit view.matching.now.match_limit ≡ match_limit (setting_for tree view given) =
+        let limit : lower_of view.options.now.match_limit view.matching.now.match_limit ≡ match_limit
+        (setting_for tree view given) =
         ap (λ (o : Options). lower_of o.match_limit view.matching.now.match_limit) options in
         place_told (setting_for tree view given) free.off (map (tree_at (trees tree.nodes)) parts) p o (are.all some)
-        (ap (λ (s : Scene). tested s (row_of tree parts) p) (sym (scene_same tree table view given shown options)) ∙ sym e)
+        (ap (λ (s : Scene). tested s (row_of tree parts) p) (sym (scene_same tree table view given shown options))
+        ∙ sym e)
         counted (omega (arith, n, steps, limit)) free.unit
 
     by_told : (b : Tested) → b ≡ tested (text_scene view table) (row_of tree parts) p →

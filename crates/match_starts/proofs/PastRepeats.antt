@@ -1,6 +1,7 @@
 -- A pattern fails where the run of the item that it begins with is too short, or where what has to
 -- follow follows neither it nor a shorter one.
-use Rattle.std.proofs.Common.{◌≡◌, ℕ, ℤ, zero, suc, ◌+◌, ◌-◌, ◌<◌, ◌≤◌, inl, inr, Bool, true, false, List, [], ◌∷◌, ◌++◌, length, map, drop, reverse, Option, Some, None, refl, sym, ap, subst, ◌∙◌, arith}
+use Rattle.std.proofs.Common.{◌≡◌, ℕ, ℤ, zero, suc, ◌+◌, ◌-◌, ◌<◌, ◌≤◌, inl, inr, Bool, true, false, List, [], ◌∷◌}
+use Rattle.std.proofs.Common.{◌++◌, length, map, drop, reverse, Option, Some, None, refl, sym, ap, subst, ◌∙◌, arith}
 use Rattle.std.specs.Prelude.{◌==◌, slice_index, IfSome, if◌then◌else◌}
 use Rattle.std.proofs.lemmas.Bool.{le-leb, eqb-true}
 use Rattle.std.proofs.lemmas.List.{drop_all, reverse-append, length-append, length-drop, length-reverse}
@@ -9,9 +10,11 @@ use Rattle.pat_tree.specs.declared.nodes.Item.TheVariants.{Char, AnyAll, NotNewl
 use Rattle.pat_tree.specs.declared.options.PartialMode.TheVariants.{Off}
 use Rattle.pat_tree.specs.Nested.{Nested, Row, row, seq, group, one, one_repeat, none, more, tree_at, trees}
 use Rattle.match_items.specs.Scene.{Scene}
-use Rattle.match_items.specs.Items.{takes, after_item, item_reaches, one_less, is_none_left, run_places, longest_run, run_reaches}
+use Rattle.match_items.specs.Items.{takes, after_item, item_reaches, one_less, is_none_left, run_places, longest_run}
+use Rattle.match_items.specs.Items.{run_reaches}
 use Rattle.match_items.specs.Views.{end_of}
-use Rattle.ordered_search.specs.Stream.{State, first_state, by_halt, too_many_units, How, reached, captured, Stream, Search, ends, nothing, gives, ◌or_else◌, each, and_then}
+use Rattle.ordered_search.specs.Stream.{State, first_state, by_halt, too_many_units, How, reached, captured, Stream}
+use Rattle.ordered_search.specs.Stream.{Search, ends, nothing, gives, ◌or_else◌, each, and_then}
 use Rattle.ordered_search.specs.Setting.{Setting, match_limit, held, hold}
 use Rattle.ordered_search.specs.Tests.{goes_to, move_to, run_one, offers, greedy, run_many}
 use Rattle.ordered_search.specs.Parts.{Searches, in_order, branches, run_group}
@@ -34,7 +37,8 @@ use Rattle.frame_board.specs.Ready.{setting_for}
 use Rattle.match_starts.specs.declared.repeats.FirstRepeat.{FirstRepeat}
 use Rattle.match_starts.specs.Asked.{passed_over, replied}
 use Rattle.match_starts.specs.Prefix.{row_of}
-use Rattle.match_starts.specs.Repeats.{Lacks, IsRepeat, IsLead, BeginsPart, Follows, BeginsWith, IsFirstRepeat, FailsUpTo}
+use Rattle.match_starts.specs.Repeats.{Lacks, IsRepeat, IsLead, BeginsPart, Follows, BeginsWith, IsFirstRepeat}
+use Rattle.match_starts.specs.Repeats.{FailsUpTo}
 use Rattle.match_starts.proofs.Leads.{class_told}
 use Rattle.match_starts.proofs.PastPrefix.{scene_same}
 

@@ -10,7 +10,10 @@ use Rattle.ordered_search.specs.Places.{up_to}
 module _ (options : Options) (subject : List ℕ) where
   -- outside UTF each place within the subject is one
   pub byte_place : options.utf ≡ false → (p : ℕ) → p ≤ length subject → IsTextPlace options subject p
-  byte_place bytes p within = record { within = within; between = λ utf. absurd (let no : true ≡ false = sym utf ∙ bytes in cc) }
+  byte_place bytes p within = record {
+    within = within;
+    between = λ utf. absurd (let no : true ≡ false = sym utf ∙ bytes in cc);
+  }
 
 -- what holds of a place holds of it where it isn't past the last one
 pub up_to_place : (P : ℕ → Type 0) (last : ℕ) (o : Option ℕ) → IfSome o P → IfSome (up_to last o) P

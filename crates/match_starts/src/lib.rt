@@ -1,5 +1,5 @@
-//! What a pattern begins with, tested at a start place before the machine goes over the pattern: the single items of its
-//! branches, and the repeat of an item (docs/SPEED.md).
+//! What a pattern begins with, tested at a start place before the machine goes over the pattern: the single items of
+//! its branches, and the repeat of an item (docs/SPEED.md).
 #![tactic(auto)]
 
 mod prefix;

@@ -42,8 +42,8 @@ fn branches_of(tree: &Tree) -> &[NodeId]
     }
 }
 
-/// Those that are tested before the machine runs: none where partial matches are looked for, as the subject's end may be
-/// reached there, or where so many branches may pass a limit.
+/// Those that are tested before the machine runs: none where partial matches are looked for, as the subject's end may
+/// be reached there, or where so many branches may pass a limit.
 pub fn branches_tested<'a>(tree: &'a Tree, view: &View<'_>) -> &'a [NodeId]
     ensures branches { AreBranches tree.now result.now }
     ensures free { 0 < length result.now → IsFree view.now (length result.now) }

@@ -1,6 +1,7 @@
 //! The repeat of an item that a pattern begins with, tested before the machine goes over the
 //! pattern.
-ghost use Rattle.std.specs.Prelude.{◌≡◌, ◌<◌, ◌≤◌, ◌+◌, ◌-◌, ◌||◌, ℕ, All, List, IfSome, IsTrue, None, Some, false, not, length};
+ghost use Rattle.std.specs.Prelude.{◌≡◌, ◌<◌, ◌≤◌, ◌+◌, ◌-◌, ◌||◌, ℕ, All, List, IfSome, IsTrue, None, Some, false};
+ghost use Rattle.std.specs.Prelude.{not, length};
 ghost use Rattle.pat_tree.specs.declared.nodes.Item.TheVariants.{Char, Class};
 ghost use Rattle.pat_tree.specs.declared.options.PartialMode.TheVariants.{Off};
 ghost use Rattle.pat_tree.specs.Nested.{Nested, seq, one, nest, tree_at, trees};
@@ -11,7 +12,8 @@ ghost use Rattle.char_sets.specs.Table.{IsTableOf};
 ghost use Rattle.match_items.specs.Subjects.{IsText, IsTextPlace};
 ghost use Rattle.ordered_search.specs.Setting.{lower_of};
 ghost use Rattle.match_starts.specs.Prefix.{row_of};
-ghost use Rattle.match_starts.specs.Repeats.{Lacks, IsRepeat, IsLead, BeginsWith, BeginsByRepeat, IsFirstRepeat, FailsUpTo};
+ghost use Rattle.match_starts.specs.Repeats.{Lacks, IsRepeat, IsLead, BeginsWith, BeginsByRepeat, IsFirstRepeat};
+ghost use Rattle.match_starts.specs.Repeats.{FailsUpTo};
 
 use crate::prefix::taken;
 use crate::search::{are_bytes, is_off, match_limit};

@@ -4,8 +4,8 @@ use pat_tree::Options;
 use std::alloc::Global;
 use std::io::Read;
 
-/// Reads the pattern that the reader holds so many times. The sum of the numbers of its nodes, each time counted; None where
-/// the pattern is refused or can't be had.
+/// Reads the pattern that the reader holds so many times. The sum of the numbers of its nodes, each time counted; None
+/// where the pattern is refused or can't be had.
 pub fn count_nodes<R: Read + Drop>(alloc: Global, times: u32, mut reader: R) -> Option<u64> {
     let mut pattern = Vec::new(alloc);
     reader.read_to_end(&mut pattern).ok()?;

@@ -29,8 +29,8 @@ fn rewritten_by(alloc: Global, code: &Code, text: &[u8], replacement: &str) -> O
         .ok()
 }
 
-/// What the reader holds, as one subject, with all matches replaced. None where the pattern or the replacement is refused,
-/// or the text can't be had.
+/// What the reader holds, as one subject, with all matches replaced. None where the pattern or the replacement is
+/// refused, or the text can't be had.
 pub fn rewritten<R: Read + Drop>(
     alloc: Global,
     pattern: &str,

@@ -1,6 +1,8 @@
 -- No part stands at two places of the order: two lists with a common part have a common way up from it.
 use Rattle.std.specs.List.{IsDistinct}
-use Rattle.std.proofs.Common.{◌≡◌, ◌≢◌, ℕ, zero, suc, ◌+◌, ◌<◌, ◌≤◌, Bool, true, false, ◌||◌, ◌==◌, nat_eq, List, [], ◌∷◌, ◌++◌, flat_map, take, length, get_or, inl, inr, ◌⊎◌, refl, sym, ap, ◌∙◌, subst, arith, All, append_assoc, append-nil}
+use Rattle.std.proofs.Common.{◌≡◌, ◌≢◌, ℕ, zero, suc, ◌+◌, ◌<◌, ◌≤◌, Bool, true, false, ◌||◌, ◌==◌, nat_eq, List, []}
+use Rattle.std.proofs.Common.{◌∷◌, ◌++◌, flat_map, take, length, get_or, inl, inr, ◌⊎◌, refl, sym, ap, ◌∙◌, subst}
+use Rattle.std.proofs.Common.{arith, All, append_assoc, append-nil}
 use Rattle.std.proofs.Math.Bool.{or-true}
 use Rattle.std.proofs.lemmas.Bool.Decides.{nat_tests}
 use Rattle.std.proofs.lemmas.List.{get_or_default}
@@ -35,14 +37,19 @@ module _ (f : ℕ → List ℕ) where
       let same : (k == k) ≡ true = grind (arith, nat_tests) in
       elim (one_of (is_in x (f k)) (is_in x (flat_map f ks)) (sym (in_append x (f k) (flat_map f ks)) ∙ h)) [
         | inl here ↦ record { at = k; listed = rw same refl; has = here }
-        | inr later ↦ (let o = in_one ks x later in record { at = o.at; listed = rw (o.listed, or-true) refl; has = o.has })
+        | inr later ↦ (let o = in_one ks x later in record {
+          at = o.at;
+          listed = rw (o.listed, or-true) refl;
+          has = o.has;
+        })
       ]
 
   pub in_all : (ks : List ℕ) (a x : ℕ) → is_in a ks ≡ true → is_in x (f a) ≡ true → is_in x (flat_map f ks) ≡ true
   in_all [] a x h m = absurd (true_false false h refl)
   in_all (k ∷ ks) a x h m =
       in_append x (f k) (flat_map f ks) ∙ elim (same_or_other k a) [
-        | inl same ↦ (let here : is_in x (f k) ≡ true = subst (λ j. is_in x (f j) ≡ true) (sym same.0) m in rw here refl)
+        | inl same ↦ (let here : is_in x (f k) ≡ true = subst (λ j. is_in x (f j) ≡ true) (sym same.0) m in
+            rw here refl)
         | inr other ↦ (let later = in_all ks a x (rw other.1 at h) m in rw (later, or-true) refl)
       ]
 
@@ -52,17 +59,23 @@ all_together f (k ∷ ks) a h =
     elim (same_or_other k a) [
       | inl same ↦ record { front = []; back = flat_map f ks; is = ap (λ j. f j ++ flat_map f ks) same.0 }
       | inr other ↦ (let later = all_together f ks a (rw other.1 at h) in
-          record { front = f k ++ later.front; back = later.back; is = ap (λ xs. f k ++ xs) later.is ∙ simp append_assoc })
+          record {
+            front = f k ++ later.front;
+            back = later.back;
+            is = ap (λ xs. f k ++ xs) later.is ∙ simp append_assoc;
+          })
     ]
 
-within_those : (whole middle part : List ℕ) (p : ℕ) → StandTogether whole (p ∷ middle) → StandTogether middle part → StandTogether whole part
+within_those : (whole middle part : List ℕ) (p : ℕ) → StandTogether whole (p ∷ middle) → StandTogether middle part
+    → StandTogether whole part
 within_those whole middle part p a b = record {
   front = a.front ++ p ∷ b.front;
   back = b.back ++ a.back;
   is = a.is ∙ ap (λ xs. (a.front ++ (p ∷ xs)) ++ a.back) b.is ∙ simp append_assoc;
 }
 
-once_append : (xs ys : List ℕ) → Once xs → Once ys → ((x : ℕ) → is_in x xs ≡ true → is_in x ys ≡ false) → Once (xs ++ ys)
+once_append : (xs ys : List ℕ) → Once xs → Once ys → ((x : ℕ) → is_in x xs ≡ true → is_in x ys ≡ false)
+    → Once (xs ++ ys)
 unfolding Once
 once_append [] ys a b h = b
 once_append (x ∷ xs) ys a b h =
@@ -73,7 +86,8 @@ once_append (x ∷ xs) ys a b h =
 none : Placed
 none = record { node = Empty; at = 0 }
 
-unique_parent : (ps : List Placed) (i j x : ℕ) → Once (children ps) → i < length ps → j < length ps → is_in x (kids_of (get_or ps i none).node) ≡ true → is_in x (kids_of (get_or ps j none).node) ≡ true → i ≡ j
+unique_parent : (ps : List Placed) (i j x : ℕ) → Once (children ps) → i < length ps → j < length ps
+    → is_in x (kids_of (get_or ps i none).node) ≡ true → is_in x (kids_of (get_or ps j none).node) ≡ true → i ≡ j
 unfolding children
 unique_parent [] i j x once l m h k = absurd (omega (arith, l))
 unique_parent (p ∷ ps) zero zero x once l m h k = refl
@@ -87,7 +101,9 @@ unique_parent (p ∷ ps) (suc i) zero x once l m h k =
     let s : i < length ps = omega (arith, l) in
     let later : is_in x (children ps) ≡ true = member_later ps i x q s (get_or_default ps i none q s) h in
     absurd (true_false (is_in x (children ps)) later (apart (kids_of p.node) (children ps) x once k))
-unique_parent (p ∷ ps) (suc i) (suc j) x once l m h k = ap suc (unique_parent ps i j x (once_back (kids_of p.node) (children ps) once) (omega (arith, l)) (omega (arith, m)) h k)
+unique_parent (p ∷ ps) (suc i) (suc j) x once l m h k =
+    ap suc (unique_parent ps i j x (once_back (kids_of p.node) (children ps) once) (omega (arith, l))
+    (omega (arith, m)) h k)
 
 -- the children of each of the nodes are told apart
 module _ (ps : List Placed) (once : Once (children ps)) where
@@ -116,7 +132,8 @@ module _ (ps : List Placed) (once : Once (children ps)) where
         | inl same ↦ omega (arith, same.0)
         | inr other ↦ (let o = in_one (list_of lists) (kids_at k) x (rw other.1 at inside) in
             elim (is_earlier ps k o.at) [
-              | inl less ↦ (let m = small n o.at x (omega (arith, l, less.0)) (omega (arith, s, less.0)) (rw less.1 at o.has) in omega (arith, m, less.0))
+              | inl less ↦ (let m = small n o.at x (omega (arith, l, less.0)) (omega (arith, s, less.0))
+                  (rw less.1 at o.has) in omega (arith, m, less.0))
               | inr past ↦ absurd (true_false (is_in x (list_of lists o.at)) o.has (ap (is_in x) past))
             ])
       ]
@@ -132,12 +149,27 @@ module _ (ps : List Placed) (once : Once (children ps)) where
         | inl same ↦ inl (sym same.0)
         | inr other ↦ (let o = in_one (list_of lists) (kids_at k) x (rw other.1 at inside) in
             elim (is_earlier ps k o.at) [
-              | inl less ↦ elim (above n o.at x (omega (arith, l, less.0)) (omega (arith, s, less.0)) (rw less.1 at o.has)) [
-                | inl is ↦ inr (record { parent = k; later = omega (arith, is, less.0); within = omega arith; under = itself; child = subst (λ j. is_in j (kids_at k) ≡ true) (sym is) o.listed })
-                | inr up ↦ (let there : is_in up.parent (list_of lists o.at) ≡ true = ap (is_in up.parent) less.1 ∙ up.under in
-                    let too : is_in up.parent (k ∷ flat_map (list_of lists) (kids_at k)) ≡ true = rw (in_all (list_of lists) (kids_at k) o.at up.parent o.listed there, or-true) refl in
-                    inr (record { parent = up.parent; later = up.later; within = omega (arith, up.within, less.0); under = ap (is_in up.parent) (own k s) ∙ too; child = up.child }))
-              ]
+              | inl less ↦ elim (above n o.at x (omega (arith, l, less.0)) (omega (arith, s, less.0))
+                  (rw less.1 at o.has)) [
+                    | inl is ↦ inr (record {
+                      parent = k;
+                      later = omega (arith, is, less.0);
+                      within = omega arith;
+                      under = itself;
+                      child = subst (λ j. is_in j (kids_at k) ≡ true) (sym is) o.listed;
+                    })
+                    | inr up ↦ (let there : is_in up.parent (list_of lists o.at) ≡ true = ap (is_in up.parent) less.1
+                        ∙ up.under in
+                        let too : is_in up.parent (k ∷ flat_map (list_of lists) (kids_at k)) ≡ true =
+                        rw (in_all (list_of lists) (kids_at k) o.at up.parent o.listed there, or-true) refl in
+                        inr (record {
+                          parent = up.parent;
+                          later = up.later;
+                          within = omega (arith, up.within, less.0);
+                          under = ap (is_in up.parent) (own k s) ∙ too;
+                          child = up.child;
+                        }))
+                  ]
               | inr past ↦ absurd (true_false (is_in x (list_of lists o.at)) o.has (ap (is_in x) past))
             ])
       ]
@@ -146,17 +178,22 @@ module _ (ps : List Placed) (once : Once (children ps)) where
   not_above : (q b x : ℕ) → q < length ps → b < q → is_in x (kids_at q) ≡ true → Above b x → ⊥
   unfolding kids_at
   not_above q b x s l member up =
-      let one : up.parent ≡ q = unique_parent ps up.parent q x once (omega (arith, up.within, l, s)) s up.child member in
+      let one : up.parent ≡ q = unique_parent ps up.parent q x once (omega (arith, up.within, l, s)) s up.child member
+      in
       omega (arith, one, up.within, l)
 
-  same_parent : (a b x : ℕ) → a < length ps → b < length ps → (up : Above a x) → (other : Above b x) → up.parent ≡ other.parent
+  same_parent : (a b x : ℕ) → a < length ps → b < length ps → (up : Above a x) → (other : Above b x)
+      → up.parent ≡ other.parent
   unfolding kids_at
-  same_parent a b x l m up other = unique_parent ps up.parent other.parent x once (omega (arith, up.within, l)) (omega (arith, other.within, m)) up.child other.child
+  same_parent a b x l m up other = unique_parent ps up.parent other.parent x once (omega (arith, up.within, l))
+      (omega (arith, other.within, m)) up.child other.child
 
   -- a part is not under two children of one node
-  disjoint : (n q a b x : ℕ) → q ≤ x + n → q < length ps → a < q → b < q → a ≢ b → is_in a (kids_at q) ≡ true → is_in b (kids_at q) ≡ true →
+  disjoint : (n q a b x : ℕ) → q ≤ x + n → q < length ps → a < q → b < q → a ≢ b → is_in a (kids_at q) ≡ true
+      → is_in b (kids_at q) ≡ true →
       is_in x (order ps a) ≡ true → is_in x (order ps b) ≡ true → ⊥
-  disjoint zero q a b x far s la lb differ ka kb ha hb = (let l : x ≤ a = small (suc a) a x (omega arith) (omega (arith, la, s)) ha in omega (arith, l, la, far))
+  disjoint zero q a b x far s la lb differ ka kb ha hb =
+      (let l : x ≤ a = small (suc a) a x (omega arith) (omega (arith, la, s)) ha in omega (arith, l, la, far))
   disjoint (suc n) q a b x far s la lb differ ka kb ha hb =
       elim (above (suc a) a x (omega arith) (omega (arith, la, s)) ha) [
         | inl is_a ↦ elim (above (suc b) b x (omega arith) (omega (arith, lb, s)) hb) [
@@ -165,14 +202,17 @@ module _ (ps : List Placed) (once : Once (children ps)) where
         ]
         | inr up ↦ elim (above (suc b) b x (omega arith) (omega (arith, lb, s)) hb) [
           | inl is_b ↦ not_above q a x s la (subst (λ j. is_in j (kids_at q) ≡ true) (sym is_b) kb) up
-          | inr other ↦ (let same : up.parent ≡ other.parent = same_parent a b x (omega (arith, la, s)) (omega (arith, lb, s)) up other in
-              let there : is_in up.parent (order ps b) ≡ true = subst (λ j. is_in j (order ps b) ≡ true) (sym same) other.under in
+          | inr other ↦ (let same : up.parent ≡ other.parent = same_parent a b x (omega (arith, la, s))
+              (omega (arith, lb, s)) up other in
+              let there : is_in up.parent (order ps b) ≡ true =
+              subst (λ j. is_in j (order ps b) ≡ true) (sym same) other.under in
               disjoint n q a b up.parent (omega (arith, far, up.later)) s la lb differ ka kb up.under there)
         ]
       ]
 
   -- the lists of children that stand once
-  once_turn : (k : ℕ) (ks : List ℕ) → k < length ps → Once ks → ((a : ℕ) → is_in a ks ≡ true → is_in a (kids_at k) ≡ true) → ((a : ℕ) → a < k → Once (order ps a)) →
+  once_turn : (k : ℕ) (ks : List ℕ) → k < length ps → Once ks
+      → ((a : ℕ) → is_in a ks ≡ true → is_in a (kids_at k) ≡ true) → ((a : ℕ) → a < k → Once (order ps a)) →
       Once (flat_map (list_of (take k (orders_after [] ps))) ks)
   unfolding Once
   once_turn k [] s distinct all each = tt
@@ -185,8 +225,10 @@ module _ (ps : List Placed) (once : Once (children ps)) where
             elim (in_or_not x (flat_map f ks)) [
               | inl inside ↦ (let o = in_one f ks x inside in
                   elim (is_earlier ps k o.at) [
-                    | inl other ↦ (let differ : a ≢ o.at = λ e. true_false (is_in o.at ks) o.listed (subst (λ j. is_in j ks ≡ false) e distinct.0) in
-                        absurd (disjoint k k a o.at x (omega arith) s less.0 other.0 differ (all a (rw same refl)) (all o.at (rw (o.listed, or-true) refl)) (rw less.1 at m) (rw other.1 at o.has)))
+                    | inl other ↦ (let differ : a ≢ o.at = λ e. true_false (is_in o.at ks) o.listed
+                        (subst (λ j. is_in j ks ≡ false) e distinct.0) in
+                        absurd (disjoint k k a o.at x (omega arith) s less.0 other.0 differ (all a (rw same refl))
+                        (all o.at (rw (o.listed, or-true) refl)) (rw less.1 at m) (rw other.1 at o.has)))
                     | inr past ↦ absurd (true_false (is_in x (f o.at)) o.has (ap (is_in x) past))
                   ])
               | inr out ↦ out
@@ -200,13 +242,16 @@ module _ (ps : List Placed) (once : Once (children ps)) where
   once_order (suc n) k l s =
       let lists = take k (orders_after [] ps) in
       let p = get_or ps k none in
-      let each : (a : ℕ) → a < k → Once (order ps a) = λ a m. once_order n a (omega (arith, m, l)) (omega (arith, m, s)) in
-      let rest : Once (flat_map (list_of lists) (kids_at k)) = once_turn k (kids_at k) s (once_at ps k p once s (get_or_default ps k none p s)) (λ a m. m) each in
+      let each : (a : ℕ) → a < k → Once (order ps a) = λ a m. once_order n a (omega (arith, m, l))
+      (omega (arith, m, s)) in
+      let rest : Once (flat_map (list_of lists) (kids_at k)) =
+      once_turn k (kids_at k) s (once_at ps k p once s (get_or_default ps k none p s)) (λ a m. m) each in
       let out : is_in k (flat_map (list_of lists) (kids_at k)) ≡ false =
       elim (in_or_not k (flat_map (list_of lists) (kids_at k))) [
         | inl inside ↦ (let o = in_one (list_of lists) (kids_at k) k inside in
             elim (is_earlier ps k o.at) [
-              | inl less ↦ (let m : k ≤ o.at = small (suc o.at) o.at k (omega arith) (omega (arith, less.0, s)) (rw less.1 at o.has) in absurd (omega (arith, m, less.0)))
+              | inl less ↦ (let m : k ≤ o.at = small (suc o.at) o.at k (omega arith) (omega (arith, less.0, s))
+                  (rw less.1 at o.has) in absurd (omega (arith, m, less.0)))
               | inr past ↦ absurd (true_false (is_in k (list_of lists o.at)) o.has (ap (is_in k) past))
             ])
         | inr other ↦ other
@@ -215,13 +260,16 @@ module _ (ps : List Placed) (once : Once (children ps)) where
 
   -- where each child has a smaller number than its node
   module _ (below : (k : ℕ) → k < length ps → All (λ x. x < k) (kids_at k)) (root : ℕ) (s : root < length ps) where
-    by_parent : (q : ℕ) (up : Above root q) → StandTogether (order ps root) (order ps up.parent) → StandTogether (order ps root) (order ps q)
+    by_parent : (q : ℕ) (up : Above root q) → StandTogether (order ps root) (order ps up.parent)
+        → StandTogether (order ps root) (order ps q)
     unfolding kids_at
     by_parent q up there =
         let l : up.parent < length ps = omega (arith, up.within, s) in
         let p = get_or ps up.parent none in
-        let is : order ps up.parent ≡ up.parent ∷ flat_map (order ps) (kids_at up.parent) = first ps up.parent p l (get_or_default ps up.parent none p l) (below up.parent l) in
-        within_those (order ps root) (flat_map (order ps) (kids_at up.parent)) (order ps q) up.parent (subst (StandTogether (order ps root)) is there) (all_together (order ps) (kids_at up.parent) q up.child)
+        let is : order ps up.parent ≡ up.parent ∷ flat_map (order ps) (kids_at up.parent) =
+        first ps up.parent p l (get_or_default ps up.parent none p l) (below up.parent l) in
+        within_those (order ps root) (flat_map (order ps) (kids_at up.parent)) (order ps q) up.parent
+        (subst (StandTogether (order ps root)) is there) (all_together (order ps) (kids_at up.parent) q up.child)
 
     itself : (q : ℕ) → q ≡ root → StandTogether (order ps root) (order ps q)
     itself q is = record { front = []; back = []; is = ap (order ps) (sym is) ∙ sym (append-nil (order ps q)) }
@@ -247,7 +295,8 @@ stands_once ps k distinct =
       | inr out ↦ subst (IsDistinct nat_eq) (sym (past ps k out)) tt
     ]
 
-pub stands_together : (ps : List Placed) (root q : ℕ) → IsDistinct nat_eq (children ps) → AreBelow 0 ps → root < length ps → is_in q (order ps root) ≡ true →
+pub stands_together : (ps : List Placed) (root q : ℕ) → IsDistinct nat_eq (children ps) → AreBelow 0 ps
+    → root < length ps → is_in q (order ps root) ≡ true →
     StandTogether (order ps root) (order ps q)
 unfolding kids_at
 stands_together ps root q distinct below s h =

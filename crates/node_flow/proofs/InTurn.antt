@@ -1,5 +1,6 @@
 -- The children of a part stand in turn behind it.
-use Rattle.std.proofs.Common.{◌≡◌, ℕ, suc, ◌+◌, ◌<◌, ◌≤◌, true, false, ◌==◌, List, [], ◌∷◌, ◌++◌, flat_map, length, get_or, All, inl, inr, refl, sym, ap, ◌∙◌, subst, arith, append_assoc, length-append}
+use Rattle.std.proofs.Common.{◌≡◌, ℕ, suc, ◌+◌, ◌<◌, ◌≤◌, true, false, ◌==◌, List, [], ◌∷◌, ◌++◌, flat_map, length}
+use Rattle.std.proofs.Common.{get_or, All, inl, inr, refl, sym, ap, ◌∙◌, subst, arith, append_assoc, length-append}
 use Rattle.std.proofs.Math.Bool.{or-true}
 use Rattle.std.proofs.lemmas.Bool.Decides.{nat_tests}
 use Rattle.std.proofs.lemmas.List.{get_or_default}
@@ -17,7 +18,8 @@ use Rattle.node_flow.proofs.Apart.{in_all, small}
 use Rattle.node_flow.proofs.TreeLaws.{parts_come_first, parts_stand_once, parts_stand_together}
 
 -- the place of what stands behind others that are different
-place_seam : (front : List ℕ) (k : ℕ) (back : List ℕ) → is_in k front ≡ false → place_in (front ++ k ∷ back) k ≡ length front
+place_seam : (front : List ℕ) (k : ℕ) (back : List ℕ) → is_in k front ≡ false
+    → place_in (front ++ k ∷ back) k ≡ length front
 unfolding place_in
 place_seam [] k back out =
     let same : (k == k) ≡ true = grind (arith, nat_tests) in
@@ -48,7 +50,8 @@ place_at (x ∷ xs) k m =
     ]
 
 -- in a list in which none stands twice
-place_once : (front : List ℕ) (k : ℕ) (back : List ℕ) → Once (front ++ k ∷ back) → place_in (front ++ k ∷ back) k ≡ length front
+place_once : (front : List ℕ) (k : ℕ) (back : List ℕ) → Once (front ++ k ∷ back)
+    → place_in (front ++ k ∷ back) k ≡ length front
 place_once front k back h =
     let same : (k == k) ≡ true = grind (arith, nat_tests) in
     let member : is_in k (k ∷ back) ≡ true = rw same refl in
@@ -70,23 +73,36 @@ module _ (t : TreeParts) (h : TreeRules t) where
   kids_at q other = kids_of (get_or t.nodes q other).node
 
   -- a part that stands behind others
-  rank_is : (q : ℕ) → q ≤ t.root → (other : Placed) (front back : List ℕ) → whole ≡ front ++ (order t.nodes q ++ back) → rank t.nodes t.root q ≡ length front
+  rank_is : (q : ℕ) → q ≤ t.root → (other : Placed) (front back : List ℕ) → whole ≡ front ++ (order t.nodes q ++ back)
+      → rank t.nodes t.root q ≡ length front
   rank_is q l other front back e =
       let own : order t.nodes q ≡ q ∷ flat_map (order t.nodes) (kids_at q other) = parts_come_first t h q l other in
-      let here : whole ≡ front ++ (q ∷ (flat_map (order t.nodes) (kids_at q other) ++ back)) = e ∙ ap (λ xs. front ++ (xs ++ back)) own in
-      ap (λ xs. place_in xs q) here ∙ place_once front q (flat_map (order t.nodes) (kids_at q other) ++ back) (subst Once here distinct)
+      let here : whole ≡ front ++ (q ∷ (flat_map (order t.nodes) (kids_at q other) ++ back)) = e
+      ∙ ap (λ xs. front ++ (xs ++ back)) own in
+      ap (λ xs. place_in xs q) here ∙ place_once front q (flat_map (order t.nodes) (kids_at q other) ++ back)
+      (subst Once here distinct)
 
-  in_turn : (ks front back : List ℕ) (to : ℕ) → All (λ k. k ≤ t.root) ks → (other : Placed) → whole ≡ front ++ (flat_map (order t.nodes) ks ++ back) →
-      to ≡ length front + length (flat_map (order t.nodes) ks) → StandInTurn (rank t.nodes t.root) (past t.nodes t.root) (length front) ks to
+  in_turn : (ks front back : List ℕ) (to : ℕ) → All (λ k. k ≤ t.root) ks → (other : Placed)
+      → whole ≡ front ++ (flat_map (order t.nodes) ks ++ back) →
+      to ≡ length front + length (flat_map (order t.nodes) ks)
+      → StandInTurn (rank t.nodes t.root) (past t.nodes t.root) (length front) ks to
   in_turn [] front back to below other e is = omega (arith, is)
   in_turn (k ∷ ks) front back to below other e is =
       let f : ℕ → List ℕ = order t.nodes in
-      let first : whole ≡ front ++ (f k ++ (flat_map f ks ++ back)) = e ∙ ap (λ xs. front ++ xs) (append_assoc (f k) (flat_map f ks) back) in
-      let here : rank t.nodes t.root k ≡ length front = rank_is k (All-head (λ x. x ≤ t.root) k ks below) other front (flat_map f ks ++ back) first in
-      let later : whole ≡ (front ++ f k) ++ (flat_map f ks ++ back) = first ∙ sym (append_assoc front (f k) (flat_map f ks ++ back)) in
-      let place : length (front ++ f k) ≡ past t.nodes t.root k = length-append front (f k) ∙ ap (λ n. n + length (f k)) (sym here) in
-      let end : to ≡ length (front ++ f k) + length (flat_map f ks) = omega (arith, is, length-append front (f k), length-append (f k) (flat_map f ks)) in
-      (here, subst (λ n. StandInTurn (rank t.nodes t.root) (past t.nodes t.root) n ks to) place (in_turn ks (front ++ f k) back to (All-tail (λ x. x ≤ t.root) k ks below) other later end))
+      let first : whole ≡ front ++ (f k ++ (flat_map f ks ++ back)) = e
+      ∙ ap (λ xs. front ++ xs) (append_assoc (f k) (flat_map f ks) back) in
+      let here : rank t.nodes t.root k ≡ length front =
+      rank_is k (All-head (λ x. x ≤ t.root) k ks below) other front (flat_map f ks ++ back) first in
+      let later : whole ≡ (front ++ f k) ++ (flat_map f ks ++ back) = first
+      ∙ sym (append_assoc front (f k) (flat_map f ks ++ back)) in
+      let place : length (front ++ f k) ≡ past t.nodes t.root k = length-append front (f k)
+      ∙ ap (λ n. n + length (f k)) (sym here) in
+      let end : to ≡ length (front ++ f k) + length (flat_map f ks) =
+      omega (arith, is, length-append front (f k), length-append (f k) (flat_map f ks)) in (
+        here,
+        subst (λ n. StandInTurn (rank t.nodes t.root) (past t.nodes t.root) n ks to) place
+            (in_turn ks (front ++ f k) back to (All-tail (λ x. x ≤ t.root) k ks below) other later end),
+      )
 
   -- a part is in its own list
   itself : (k : ℕ) → k ≤ t.root → (other : Placed) → is_in k (order t.nodes k) ≡ true
@@ -98,21 +114,26 @@ module _ (t : TreeParts) (h : TreeRules t) where
   in_whole : (q x : ℕ) → is_in q whole ≡ true → is_in x (order t.nodes q) ≡ true → is_in x whole ≡ true
   in_whole q x inside m =
       let s : StandTogether whole (order t.nodes q) = parts_stand_together t h q inside in
-      ap (is_in x) (s.is ∙ append_assoc s.front (order t.nodes q) s.back) ∙ in_append x s.front (order t.nodes q ++ s.back)
-      ∙ (let there : is_in x (order t.nodes q ++ s.back) ≡ true = in_append x (order t.nodes q) s.back ∙ rw m refl in rw (there, or-true) refl)
+      ap (is_in x) (s.is ∙ append_assoc s.front (order t.nodes q) s.back)
+      ∙ in_append x s.front (order t.nodes q ++ s.back)
+      ∙ (let there : is_in x (order t.nodes q ++ s.back) ≡ true = in_append x (order t.nodes q) s.back ∙ rw m refl in
+      rw (there, or-true) refl)
 
   -- and is at most the root
   in_root : (q : ℕ) → is_in q whole ≡ true → q ≤ t.root
-  in_root q inside = small t.nodes (once (children t.nodes) h.nodes.once) (t.root + 1) t.root q (omega arith) h.root inside
+  in_root q inside = small t.nodes (once (children t.nodes) h.nodes.once) (t.root + 1) t.root q (omega arith) h.root
+      inside
 
   stand_in_turn : (q : ℕ) → is_in q whole ≡ true → (other : Placed) →
       All (λ k. is_in k whole ≡ true) (kids_at q other)
-      × StandInTurn (rank t.nodes t.root) (past t.nodes t.root) (suc (rank t.nodes t.root q)) (kids_at q other) (past t.nodes t.root q)
+      × StandInTurn (rank t.nodes t.root) (past t.nodes t.root) (suc (rank t.nodes t.root q)) (kids_at q other)
+      (past t.nodes t.root q)
   stand_in_turn q inside other =
       let l : q ≤ t.root = in_root q inside in
       let p : Placed = get_or t.nodes q other in
       let near : q < length t.nodes = omega (arith, l, h.root) in
-      let below : All (λ x. x < q) (kids_of p.node) = (reached_node t.nodes q p h.nodes.below near (get_or_default t.nodes q other p near)).1 in
+      let below : All (λ x. x < q) (kids_of p.node) =
+      (reached_node t.nodes q p h.nodes.below near (get_or_default t.nodes q other p near)).1 in
       let ks : List ℕ = kids_at q other in
       let f : ℕ → List ℕ = order t.nodes in
       let own : f q ≡ q ∷ flat_map f ks = parts_come_first t h q l other in
@@ -120,13 +141,18 @@ module _ (t : TreeParts) (h : TreeRules t) where
       let parted : whole ≡ s.front ++ (f q ++ s.back) = s.is ∙ append_assoc s.front (f q) s.back in
       let here : rank t.nodes t.root q ≡ length s.front = rank_is q l other s.front s.back parted in
       let behind : whole ≡ (s.front ++ q ∷ []) ++ (flat_map f ks ++ s.back) =
-      parted ∙ ap (λ xs. s.front ++ (xs ++ s.back)) own ∙ sym (append_assoc s.front (q ∷ []) (flat_map f ks ++ s.back)) in
-      let start : length (s.front ++ q ∷ []) ≡ suc (rank t.nodes t.root q) = omega (arith, here, length-append s.front (q ∷ [])) in
-      let end : past t.nodes t.root q ≡ length (s.front ++ q ∷ []) + length (flat_map f ks) = omega (arith, start, ap length own) in
-      let low : All (λ k. k ≤ t.root) ks = λ i d m. let less : get_or ks i d < q = below i d m in omega (arith, less, l) in (
+      parted ∙ ap (λ xs. s.front ++ (xs ++ s.back)) own
+      ∙ sym (append_assoc s.front (q ∷ []) (flat_map f ks ++ s.back)) in
+      let start : length (s.front ++ q ∷ []) ≡ suc (rank t.nodes t.root q) =
+      omega (arith, here, length-append s.front (q ∷ [])) in
+      let end : past t.nodes t.root q ≡ length (s.front ++ q ∷ []) + length (flat_map f ks) =
+      omega (arith, start, ap length own) in
+      let low : All (λ k. k ≤ t.root) ks = λ i d m. let less : get_or ks i d < q = below i d m in
+      omega (arith, less, l) in (
         λ i d m.
             let k : ℕ = get_or ks i d in
-            let child : is_in k (flat_map f ks) ≡ true = in_all f ks k k (in_at ks i d m) (itself k (low i d m) other) in
+            let child : is_in k (flat_map f ks) ≡ true = in_all f ks k k (in_at ks i d m) (itself k (low i d m) other)
+            in
             in_whole q k inside (ap (is_in k) own ∙ rw (child, or-true) refl),
         subst (λ n. StandInTurn (rank t.nodes t.root) (past t.nodes t.root) n ks (past t.nodes t.root q)) start
             (in_turn ks (s.front ++ q ∷ []) s.back (past t.nodes t.root q) low other behind end),

@@ -1,5 +1,6 @@
 -- What comes later among the children of one node.
-use Rattle.std.proofs.Common.{◌≡◌, ℕ, Bool, true, false, ◌==◌, ◌||◌, if◌then◌else◌, List, [], ◌∷◌, ◌++◌, get_or, All, Some, None, inl, inr, refl, ◌∙◌, subst, arith}
+use Rattle.std.proofs.Common.{◌≡◌, ℕ, Bool, true, false, ◌==◌, ◌||◌, if◌then◌else◌, List, [], ◌∷◌, ◌++◌, get_or, All}
+use Rattle.std.proofs.Common.{Some, None, inl, inr, refl, ◌∙◌, subst, arith}
 use Rattle.std.proofs.Math.Bool.{or-true}
 use Rattle.std.proofs.lemmas.Bool.Decides.{nat_tests}
 use Rattle.std.proofs.lemmas.List.Elements.{All-nil, All-tail, All-append}
@@ -22,7 +23,8 @@ chosen_all P true after h = h
 chosen_all P false after h = All-nil P
 
 -- what holds of the children and of what follows the node holds of what follows a child
-pub after_all : (P : ℕ → Type 0) (n : Node) (after : List ℕ) (k : ℕ) → All P (kids_of n) → All P after → All P (after_child n after k)
+pub after_all : (P : ℕ → Type 0) (n : Node) (after : List ℕ) (k : ℕ) → All P (kids_of n) → All P after
+    → All P (after_child n after k)
 after_all P node.Empty after k h a = All-nil P
 after_all P (node.One item) after k h a = All-nil P
 after_all P node.Break after k h a = All-nil P
@@ -44,14 +46,20 @@ after_all P (node.Callout number from to at len) after k h a = All-nil P
 -- one that is in where another is not is not the other
 differ : (x k : ℕ) (xs : List ℕ) → is_in x xs ≡ false → is_in k xs ≡ true → (x == k) ≡ false
 differ x k xs out member =
-    elim (same_or_other x k) [ inl same ↦ absurd (true_false (is_in k xs) member (subst (λ j. is_in j xs ≡ false) same.0 out)) | inr other ↦ other.1 ]
+    elim (same_or_other x k) [
+      | inl same ↦
+          absurd (true_false (is_in k xs) member (subst (λ j. is_in j xs ≡ false) same.0 out))
+      | inr other ↦ other.1
+    ]
 
 -- the first of the later ones is followed by the others
-pub later_chain : (k x : ℕ) (kids xs : List ℕ) → Once kids → later_than k kids ≡ x ∷ xs → (is_in x kids ≡ true) × (later_than x kids ≡ xs)
+pub later_chain : (k x : ℕ) (kids xs : List ℕ) → Once kids → later_than k kids ≡ x ∷ xs
+    → (is_in x kids ≡ true) × (later_than x kids ≡ xs)
 unfolding Once
 later_chain k x [] xs once e = absurd cc
 later_chain k x (y ∷ ys) xs once e =
-    let found : (is_in x ys ≡ true) × (later_than x ys ≡ xs) → (is_in x (y ∷ ys) ≡ true) × (later_than x (y ∷ ys) ≡ xs) =
+    let found : (is_in x ys ≡ true) × (later_than x ys ≡ xs)
+    → (is_in x (y ∷ ys) ≡ true) × (later_than x (y ∷ ys) ≡ xs) =
     λ h. (let other = differ y x ys once.0 h.0 in (rw (other, h.0) refl, rw other h.1)) in
     elim (same_or_other y k) [
       | inl same ↦ (let is : ys ≡ x ∷ xs = rw same.1 at e in
@@ -60,7 +68,8 @@ later_chain k x (y ∷ ys) xs once e =
       | inr other ↦ found (later_chain k x ys xs once.1 (rw other.1 at e))
     ]
 
-chain_from : (rest : ℕ → List ℕ) (after kids : List ℕ) → Once kids → ((k : ℕ) → is_in k kids ≡ true → rest k ≡ later_than k kids ++ after) → AreChained rest kids after
+chain_from : (rest : ℕ → List ℕ) (after kids : List ℕ) → Once kids
+    → ((k : ℕ) → is_in k kids ≡ true → rest k ≡ later_than k kids ++ after) → AreChained rest kids after
 unfolding Once
 chain_from rest after [] once each = tt
 chain_from rest after (k ∷ ks) once each =
@@ -82,14 +91,17 @@ module _ (rest : ℕ → List ℕ) (after : List ℕ) where
   linked (node.Seq kids) once each = chain_from rest after kids once each
   linked (node.Group None branches) once each = λ i d l. each (get_or branches i d) (in_at branches i d l)
   linked (node.Group (Some n) branches) once each = λ i d l. each (get_or branches i d) (in_at branches i d l)
-  linked (node.Repeat body min max lazy) once each = (let same : (body == body) ≡ true = grind (arith, nat_tests) in each body (rw same refl))
+  linked (node.Repeat body min max lazy) once each =
+      (let same : (body == body) ≡ true = grind (arith, nat_tests) in each body (rw same refl))
   linked (node.OneRepeat item min max lazy) once each = tt
   linked (node.Atomic branches) once each = λ i d l. each (get_or branches i d) (in_at branches i d l)
-  linked (node.Look ahead positive once' branches) once each = λ i d l. each (get_or branches i d) (in_at branches i d l)
+  linked (node.Look ahead positive once' branches) once each =
+      λ i d l. each (get_or branches i d) (in_at branches i d l)
   linked (node.Cond test yes' no') once each =
       let tests = tests_of test in
       let branches = yes' ∷ number_in no' in
-      let joined : (k : ℕ) → is_in k (tests ++ branches) ≡ (is_in k tests || is_in k branches) = λ k. in_append k tests branches in (
+      let joined : (k : ℕ) → is_in k (tests ++ branches) ≡ (is_in k tests || is_in k branches) =
+      λ k. in_append k tests branches in (
         λ i d l. (let k = get_or tests i d in
             let member : is_in k tests ≡ true = in_at tests i d l in
             let out : is_in k branches ≡ false = apart tests branches k once member in

@@ -1,6 +1,7 @@
 -- The laws of every finished tree.
 use Rattle.std.specs.List.{IsDistinct}
-use Rattle.std.proofs.Common.{◌≡◌, ℕ, zero, suc, ◌+◌, ◌<◌, ◌≤◌, nat_eq, All, List, [], ◌∷◌, take, length, get_or, sym, ap, ◌∙◌, arith}
+use Rattle.std.proofs.Common.{◌≡◌, ℕ, zero, suc, ◌+◌, ◌<◌, ◌≤◌, nat_eq, All, List, [], ◌∷◌, take, length, get_or}
+use Rattle.std.proofs.Common.{sym, ap, ◌∙◌, arith}
 use Rattle.std.proofs.lemmas.List.{get_or-take, length-take-le, get_or_default}
 use Rattle.std.proofs.lemmas.List.Elements.{All-weaker}
 use Rattle.pat_tree.specs.declared.nodes.Placed.{Placed}
@@ -45,27 +46,40 @@ module _ (nodes : List Placed) (root : ℕ) (s : Standing nodes root) where
 
   followers_are_inside : (q : ℕ) → All (λ p. p ≤ root) (rest nodes root q)
   unfolding rest
-  followers_are_inside q = All-weaker (λ p. p < 0 + length ps) (λ p. p ≤ root) (λ p l. omega (arith, l, count)) (rest nodes root q) (inside 0 ps q s.below)
+  followers_are_inside q = All-weaker (λ p. p < 0 + length ps) (λ p. p ≤ root) (λ p l. omega (arith, l, count))
+      (rest nodes root q) (inside 0 ps q s.below)
 
   followers_are_chained : (q p : ℕ) (later : List ℕ) → rest nodes root q ≡ p ∷ later → rest nodes root p ≡ later
   unfolding rest
   followers_are_chained q p later e = chained 0 ps q p later once e
 
-  children_are_linked : (q : ℕ) → q ≤ root → (other : Placed) → IsLinked (rest nodes root) (rest nodes root q) (get_or nodes q other).node
+  children_are_linked : (q : ℕ) → q ≤ root → (other : Placed)
+      → IsLinked (rest nodes root) (rest nodes root q) (get_or nodes q other).node
   unfolding rest
   children_are_linked q l other =
       let p = get_or nodes q other in
       let place : 0 + q ≡ q = omega arith in
       let short : q < length ps = omega (arith, l, count) in
-      let is : p ≡ get_or ps q p = get_or_default nodes q other p (omega (arith, l, s.short)) ∙ sym (get_or-take (root + 1) nodes q p (omega (arith, l))) in
+      let is : p ≡ get_or ps q p = get_or_default nodes q other p (omega (arith, l, s.short))
+      ∙ sym (get_or-take (root + 1) nodes q p (omega (arith, l))) in
       linked (rest nodes root) (rest nodes root q) p.node (once_at ps q p once short is)
-      (λ k member. followed 0 ps q k p s.below once short is member ∙ ap (λ j. after_child p.node (rest_among 0 ps j) k) place)
+      (λ k member. followed 0 ps q k p s.below once short is member
+      ∙ ap (λ j. after_child p.node (rest_among 0 ps j) k) place)
 
   pub hang_together : HangTogether nodes root
-  hang_together = record { last = nothing_follows_the_whole; inside = followers_are_inside; chained = followers_are_chained; linked = children_are_linked }
+  hang_together = record {
+    last = nothing_follows_the_whole;
+    inside = followers_are_inside;
+    chained = followers_are_chained;
+    linked = children_are_linked;
+  }
 
 pub followers_hang_together : FollowersHangTogether
-followers_hang_together t h = hang_together t.nodes t.root (record { short = h.root; below = below_take 0 (t.root + 1) t.nodes h.nodes.below; once = h.nodes.once })
+followers_hang_together t h = hang_together t.nodes t.root (record {
+  short = h.root;
+  below = below_take 0 (t.root + 1) t.nodes h.nodes.below;
+  once = h.nodes.once;
+})
 
 pub parts_come_first : PartsComeFirst
 parts_come_first t h q l other =

@@ -1,6 +1,7 @@
 -- The innermost branch around a part, as far as the innermost frame around it goes. Two branches or more make it one; a
 -- branch that is alone, and those of a condition, are none (pcre2pattern, "Verbs that act after backtracking").
-use Rattle.std.specs.Prelude.{◌≡◌, ◌≤◌, ℕ, ◌+◌, if◌then◌else◌, List, [], ◌∷◌, All, take, length, slice_index_or, Option, Some, None}
+use Rattle.std.specs.Prelude.{◌≡◌, ◌≤◌, ℕ, ◌+◌, if◌then◌else◌, List, [], ◌∷◌, All, take, length, slice_index_or}
+use Rattle.std.specs.Prelude.{Option, Some, None}
 use Rattle.pat_tree.specs.declared.nodes.Node.{Node}
 use Rattle.pat_tree.specs.declared.nodes.Node.TheVariants as node
 use Rattle.pat_tree.specs.declared.nodes.Placed.{Placed}
@@ -14,8 +15,8 @@ abbrev pub branch_if : List ℕ → Option ℕ → ℕ → Option ℕ
 branch_if (b ∷ b' ∷ bs) outer k = Some k
 branch_if _ outer k = outer
 
--- Around the child k of a node, where `outer` is around the node. A capturing group, a turn of a repeat, an atomic group, a
--- lookaround and the test of a condition are frames.
+-- Around the child k of a node, where `outer` is around the node. A capturing group, a turn of a repeat, an atomic
+-- group, a lookaround and the test of a condition are frames.
 abbrev pub branch_child : Node → Option ℕ → ℕ → Option ℕ
 branch_child (node.Seq kids) outer k = outer
 branch_child (node.Group None branches) outer k = branch_if branches outer k
@@ -25,10 +26,12 @@ branch_child (node.Look ahead positive once branches) outer k = branch_if branch
 branch_child (node.Cond test yes' no') outer k = if is_in k (yes' ∷ number_in no') then outer else None
 branch_child _ outer k = None
 
--- Around the part k by its parent among these nodes, which are numbered from n on. Around a part without a parent is none.
+-- Around the part k by its parent among these nodes, which are numbered from n on. Around a part without a parent is
+-- none.
 unfoldable pub branch_among : ℕ → List Placed → ℕ → Option ℕ
 branch_among n [] k = None
-branch_among n (p ∷ ps) k = if is_in k (kids_of p.node) then branch_child p.node (branch_among (n + 1) ps n) k else branch_among (n + 1) ps k
+branch_among n (p ∷ ps) k = if is_in k (kids_of p.node) then branch_child p.node (branch_among (n + 1) ps n) k else
+    branch_among (n + 1) ps k
 
 -- around a part of the tree of a root
 unfoldable pub branch_of : List Placed → ℕ → ℕ → Option ℕ

@@ -1,7 +1,8 @@
--- What runs when a part of a pattern is done, up to the end of the innermost frame around it. A capturing group, a turn of a
--- repeat, an atomic group and a lookaround are frames: at their end nothing follows (pcre2pattern, "Repetition", "Atomic
--- grouping and possessive quantifiers", "Assertions", "Conditional groups").
-use Rattle.std.specs.Prelude.{◌≡◌, ◌≤◌, ℕ, ◌+◌, ◌==◌, if◌then◌else◌, List, [], ◌∷◌, ◌++◌, take, length, slice_index_or, Option, Some, None}
+-- What runs when a part of a pattern is done, up to the end of the innermost frame around it. A capturing group, a turn
+-- of a repeat, an atomic group and a lookaround are frames: at their end nothing follows (pcre2pattern, "Repetition",
+-- "Atomic grouping and possessive quantifiers", "Assertions", "Conditional groups").
+use Rattle.std.specs.Prelude.{◌≡◌, ◌≤◌, ℕ, ◌+◌, ◌==◌, if◌then◌else◌, List, [], ◌∷◌, ◌++◌, take, length}
+use Rattle.std.specs.Prelude.{slice_index_or, Option, Some, None}
 use Rattle.pat_tree.specs.declared.nodes.Node.{Node}
 use Rattle.pat_tree.specs.declared.nodes.Node.TheVariants as node
 use Rattle.pat_tree.specs.declared.nodes.Placed.{Placed}
@@ -13,9 +14,10 @@ abbrev pub later_than : ℕ → List ℕ → List ℕ
 later_than k [] = []
 later_than k (x ∷ xs) = if x == k then xs else later_than k xs
 
--- What follows the child k of a node, where `after` follows the node: the later children of a sequence, and then what follows
--- the sequence. What follows a plain group follows each of its branches, and what follows a condition its two branches.
--- The end of any other child is the end of a frame: of its node, or for a repeat's body and a condition's lookaround its own.
+-- What follows the child k of a node, where `after` follows the node: the later children of a sequence, and then what
+-- follows the sequence. What follows a plain group follows each of its branches, and what follows a condition its two
+-- branches. The end of any other child is the end of a frame: of its node, or for a repeat's body and a condition's
+-- lookaround its own.
 abbrev pub after_child : Node → List ℕ → ℕ → List ℕ
 after_child (node.Seq kids) after k = later_than k kids ++ after
 after_child (node.Group None branches) after k = after
@@ -26,7 +28,8 @@ after_child _ after k = []
 -- child, nothing follows.
 unfoldable pub rest_among : ℕ → List Placed → ℕ → List ℕ
 rest_among n [] k = []
-rest_among n (p ∷ ps) k = if is_in k (kids_of p.node) then after_child p.node (rest_among (n + 1) ps n) k else rest_among (n + 1) ps k
+rest_among n (p ∷ ps) k = if is_in k (kids_of p.node) then after_child p.node (rest_among (n + 1) ps n) k else
+    rest_among (n + 1) ps k
 
 -- the parts that still follow a part of the tree of a root, in the order in which they run
 unfoldable pub rest : List Placed → ℕ → ℕ → List ℕ

@@ -26,7 +26,8 @@ IsLinked rest after (node.Group (Some n) branches) = AllFollowed rest [] branche
 IsLinked rest after (node.Repeat body min max lazy) = rest body ≡ []
 IsLinked rest after (node.Atomic branches) = AllFollowed rest [] branches
 IsLinked rest after (node.Look ahead positive once branches) = AllFollowed rest [] branches
-IsLinked rest after (node.Cond test yes' no') = AllFollowed rest [] (tests_of test) × AllFollowed rest after (yes' ∷ number_in no')
+IsLinked rest after (node.Cond test yes' no') = AllFollowed rest [] (tests_of test) × AllFollowed rest after
+    (yes' ∷ number_in no')
 IsLinked rest after _ = Unit {0}
 
 -- How the followers of a tree's parts hang together.
@@ -38,7 +39,8 @@ pub record HangTogether (nodes : List Placed) (root : ℕ) : Type 0 where
   -- the first part that follows is followed by the others
   pub chained : (q p : ℕ) (ps : List ℕ) → rest nodes root q ≡ p ∷ ps → rest nodes root p ≡ ps
   -- the children of each part are followed as its node says
-  pub linked : (q : ℕ) → q ≤ root → (other : Placed) → IsLinked (rest nodes root) (rest nodes root q) (slice_index_or nodes q other).node
+  pub linked : (q : ℕ) → q ≤ root → (other : Placed) → IsLinked (rest nodes root) (rest nodes root q)
+      (slice_index_or nodes q other).node
 
 -- they do in every finished tree
 abbrev pub FollowersHangTogether : Type 0

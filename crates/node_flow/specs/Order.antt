@@ -1,6 +1,7 @@
 -- The order in which the parts of a tree stand in its pattern.
 use Rattle.std.specs.List.{IsDistinct}
-use Rattle.std.specs.Prelude.{◌≡◌, ◌<◌, ◌≤◌, ℕ, suc, ◌+◌, ◌==◌, if◌then◌else◌, true, nat_eq, All, List, [], ◌∷◌, ◌++◌, flat_map, length, slice_index, slice_index_or}
+use Rattle.std.specs.Prelude.{◌≡◌, ◌<◌, ◌≤◌, ℕ, suc, ◌+◌, ◌==◌, if◌then◌else◌, true, nat_eq, All, List, [], ◌∷◌}
+use Rattle.std.specs.Prelude.{◌++◌, flat_map, length, slice_index, slice_index_or}
 use Rattle.pat_tree.specs.declared.nodes.Placed.{Placed}
 use Rattle.pat_tree.specs.Parts.{TreeParts}
 use Rattle.pat_tree.specs.Rules.{kids_of}
@@ -13,7 +14,8 @@ list_of lists k = slice_index_or lists k []
 -- for each node itself and then what its children have, in turn, after the lists of earlier nodes
 unfoldable pub orders_after : List (List ℕ) → List Placed → List (List ℕ)
 orders_after before [] = before
-orders_after before (p ∷ ps) = orders_after (before ++ (length before ∷ flat_map (list_of before) (kids_of p.node)) ∷ []) ps
+orders_after before (p ∷ ps) =
+    orders_after (before ++ (length before ∷ flat_map (list_of before) (kids_of p.node)) ∷ []) ps
 
 -- a part and those under it, each before its children, and these in order
 unfoldable pub order : List Placed → ℕ → List ℕ
@@ -60,11 +62,13 @@ pub record StandTogether (whole part : List ℕ) : Type 0 where
 
 -- a part and those under it stand side by side
 abbrev pub PartsStandTogether : Type 0
-PartsStandTogether = (t : TreeParts) → TreeRules t → (q : ℕ) → is_in q (order t.nodes t.root) ≡ true → StandTogether (order t.nodes t.root) (order t.nodes q)
+PartsStandTogether = (t : TreeParts) → TreeRules t → (q : ℕ) → is_in q (order t.nodes t.root) ≡ true
+    → StandTogether (order t.nodes t.root) (order t.nodes q)
 
 -- the children of a part of the whole are parts of it, and they stand in turn behind the part
 abbrev pub ChildrenStandInTurn : Type 0
 ChildrenStandInTurn =
     (t : TreeParts) → TreeRules t → (q : ℕ) → is_in q (order t.nodes t.root) ≡ true → (other : Placed) →
     All (λ k. is_in k (order t.nodes t.root) ≡ true) (kids_of (slice_index_or t.nodes q other).node)
-    × StandInTurn (rank t.nodes t.root) (past t.nodes t.root) (suc (rank t.nodes t.root q)) (kids_of (slice_index_or t.nodes q other).node) (past t.nodes t.root q)
+    × StandInTurn (rank t.nodes t.root) (past t.nodes t.root) (suc (rank t.nodes t.root q))
+    (kids_of (slice_index_or t.nodes q other).node) (past t.nodes t.root q)

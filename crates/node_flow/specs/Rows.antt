@@ -8,17 +8,20 @@ use Rattle.pat_tree.specs.Rows.{placed, letter}
 -- `(?:ab|c)d` and `(ab|c)d`: the letters a, b and c are the parts 0, 1 and 3, the group is 4 and d is 5
 abbrev pub group_before_d : Option ℕ → List Placed
 group_before_d number =
-    letter 97 0 ∷ letter 98 0 ∷ placed (node.Seq (0 ∷ 1 ∷ [])) 0 ∷ letter 99 0 ∷ placed (node.Group number (2 ∷ 3 ∷ [])) 0
+    letter 97 0 ∷ letter 98 0 ∷ placed (node.Seq (0 ∷ 1 ∷ [])) 0 ∷ letter 99 0 ∷ placed
+    (node.Group number (2 ∷ 3 ∷ [])) 0
     ∷ letter 100 0 ∷ placed (node.Seq (4 ∷ 5 ∷ [])) 0 ∷ placed (node.Group None (6 ∷ [])) 0 ∷ []
 
 -- `(?(?=a)b|c)d`: the lookaround is the part 1, b and c are 2 and 3, and d is 5
 abbrev pub condition_before_d : List Placed
 condition_before_d =
-    letter 97 0 ∷ placed (node.Look true true true (0 ∷ [])) 0 ∷ letter 98 0 ∷ letter 99 0 ∷ placed (node.Cond (Assert 1) 2 (Some 3)) 0
+    letter 97 0 ∷ placed (node.Look true true true (0 ∷ [])) 0 ∷ letter 98 0 ∷ letter 99 0 ∷ placed
+    (node.Cond (Assert 1) 2 (Some 3)) 0
     ∷ letter 100 0 ∷ placed (node.Seq (4 ∷ 5 ∷ [])) 0 ∷ []
 
 -- `(?:ab){2}c`: b is the part 1, the sequence 2, the repeat 3, and c is 4
 abbrev pub repeat_before_c : List Placed
 repeat_before_c =
-    letter 97 0 ∷ letter 98 0 ∷ placed (node.Seq (0 ∷ 1 ∷ [])) 0 ∷ placed (node.Repeat 2 2 (Some 2) false) 0 ∷ letter 99 0
+    letter 97 0 ∷ letter 98 0 ∷ placed (node.Seq (0 ∷ 1 ∷ [])) 0 ∷ placed (node.Repeat 2 2 (Some 2) false) 0 ∷ letter
+    99 0
     ∷ placed (node.Seq (3 ∷ 4 ∷ [])) 0 ∷ []

@@ -1,5 +1,6 @@
 //! The table of the branches around parts.
-ghost use Rattle.std.specs.Prelude.{◌≡◌, ℕ, ◌<◌, if◌then◌else◌, List, ◌∷◌, All, IfOk, OnOk, None, Some, length, slice_index_or};
+ghost use Rattle.std.specs.Prelude.{◌≡◌, ℕ, ◌<◌, if◌then◌else◌, List, ◌∷◌, All, IfOk, OnOk, None, Some, length};
+ghost use Rattle.std.specs.Prelude.{slice_index_or};
 ghost use Rattle.pat_tree.specs.declared.nodes.Placed.{Placed};
 ghost use Rattle.pat_tree.specs.Rules.{kids_of};
 ghost use Rattle.pat_tree.specs.Refs.{is_in};
@@ -10,8 +11,8 @@ use pat_tree::{Memory, Node, NodeId, Tree};
 use std::alloc::Global;
 use std::marker::Model;
 
-/// The innermost branch of two or more around each part of a tree, as far as the innermost frame around the part goes. A
-/// THEN in the part leads out of it (pcre2pattern, "Verbs that act after backtracking").
+/// The innermost branch of two or more around each part of a tree, as far as the innermost frame around the part goes.
+/// A THEN in the part leads out of it (pcre2pattern, "Verbs that act after backtracking").
 #[derive(Debug, Drop)]
 pub struct Branches {
     branches: Vec<Option<NodeId>>,
@@ -54,7 +55,8 @@ impl Branches {
     }
 }
 
-/// Tells the children of a node, which are told nothing yet, what branch is around them, where `outer` is around the node.
+/// Tells the children of a node, which are told nothing yet, what branch is around them, where `outer` is around the
+/// node.
 fn enclose(told: &mut [Option<NodeId>], node: &Node, outer: Option<NodeId>)
     requires below { All (λ k. k < length told.old) (kids_of node.now) }
     requires untold { All (λ k. slice_index_or told.old k None ≡ None) (kids_of node.now) }

@@ -1,5 +1,6 @@
 //! The table of followers.
-ghost use Rattle.std.specs.Prelude.{◌≡◌, ℕ, ◌+◌, ◌<◌, if◌then◌else◌, List, ◌∷◌, ◌++◌, All, IfOk, OnOk, None, Some, length, replicate, slice_index_or};
+ghost use Rattle.std.specs.Prelude.{◌≡◌, ℕ, ◌+◌, ◌<◌, if◌then◌else◌, List, ◌∷◌, ◌++◌, All, IfOk, OnOk, None, Some};
+ghost use Rattle.std.specs.Prelude.{length, replicate, slice_index_or};
 ghost use Rattle.pat_tree.specs.declared.nodes.Placed.{Placed};
 ghost use Rattle.pat_tree.specs.Rules.{kids_of, number_in};
 ghost use Rattle.pat_tree.specs.Refs.{is_in};
@@ -10,8 +11,8 @@ use pat_tree::{Memory, Node, NodeId, Tree};
 use std::alloc::Global;
 use std::marker::Model;
 
-/// What runs when a part of a tree is done, up to the end of the innermost frame around it: a capturing group, a turn of
-/// a repeat, an atomic group or a lookaround.
+/// What runs when a part of a tree is done, up to the end of the innermost frame around it: a capturing group, a turn
+/// of a repeat, an atomic group or a lookaround.
 #[derive(Debug, Drop)]
 pub struct Flow {
     next: Vec<Option<NodeId>>,

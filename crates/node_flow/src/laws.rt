@@ -6,8 +6,8 @@ ghost use Rattle.node_flow.specs.Linked.{FollowersHangTogether};
 ghost use Rattle.node_flow.specs.Order.{ChildrenStandInTurn, PartsComeFirst, PartsStandOnce, PartsStandTogether, order};
 ghost use Rattle.node_flow.specs.Rows.{group_before_d, condition_before_d, repeat_before_c};
 
-/// What follows parts of `(?:ab|c)d`, `(ab|c)d`, `(?(?=a)b|c)d` and `(?:ab){2}c`, the branches around some of them, and the
-/// order of the third.
+/// What follows parts of `(?:ab|c)d`, `(ab|c)d`, `(?(?=a)b|c)d` and `(?:ab){2}c`, the branches around some of them, and
+/// the order of the third.
 #[tactic(auto, unfolding(crate::specs::Followers::rest, crate::specs::Followers::rest_among, crate::specs::Branches::branch_of, crate::specs::Branches::branch_among, crate::specs::Order::order, crate::specs::Order::orders_after))]
 pub fn worked_rows()
     ensures plain { rest (group_before_d None) 7 0 ≡ 1 ∷ 5 ∷ [] }
@@ -38,8 +38,8 @@ pub fn branches_are_around()
     ensures { BranchesAreAround }
 {}
 
-/// Of every finished tree: in its order a part comes before those under it, these stand behind it side by side, and none stands
-/// at two places.
+/// Of every finished tree: in its order a part comes before those under it, these stand behind it side by side, and
+/// none stands at two places.
 pub fn parts_stand_in_order()
     ensures first { PartsComeFirst }
     ensures once { PartsStandOnce }

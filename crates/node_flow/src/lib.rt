@@ -1,5 +1,5 @@
-//! Three tables beside a finished tree: what runs when a part of the pattern is done, the order in which its parts stand,
-//! and the branch that a THEN in a part leads out of.
+//! Three tables beside a finished tree: what runs when a part of the pattern is done, the order in which its parts
+//! stand, and the branch that a THEN in a part leads out of.
 #![tactic(auto)]
 
 mod branches;

@@ -1,6 +1,7 @@
 //! The order of a tree's parts.
 ghost use Rattle.std.specs.List.{IsDistinct};
-ghost use Rattle.std.specs.Prelude.{◌≡◌, ℕ, ◌+◌, ◌<◌, ◌≤◌, nat_eq, All, List, ◌∷◌, ◌++◌, IfOk, OnOk, length, reverse, slice_index};
+ghost use Rattle.std.specs.Prelude.{◌≡◌, ℕ, ◌+◌, ◌<◌, ◌≤◌, nat_eq, All, List, ◌∷◌, ◌++◌, IfOk, OnOk, length, reverse};
+ghost use Rattle.std.specs.Prelude.{slice_index};
 ghost use Rattle.pat_tree.specs.declared.nodes.Placed.{Placed};
 ghost use Rattle.pat_tree.specs.Rules.{kids_of, number_in, tests_of};
 ghost use Rattle.node_flow.specs.Order.{AreRanks, order};

@@ -1,5 +1,6 @@
 -- The stream of a search with depth d is cut after d Steps at least.
-use Rattle.std.proofs.Common.{◌≢◌, ℕ, zero, suc, ◌+◌, ◌-◌, Bool, true, false, List, [], ◌∷◌, drop, reverse, ℤ, pos, negsuc, Option, Some, None}
+use Rattle.std.proofs.Common.{◌≢◌, ℕ, zero, suc, ◌+◌, ◌-◌, Bool, true, false, List, [], ◌∷◌, drop, reverse, ℤ, pos}
+use Rattle.std.proofs.Common.{negsuc, Option, Some, None}
 use Rattle.std.specs.Prelude.{nat_le, ◌==◌}
 use Rattle.pat_tree.specs.declared.options.PartialMode.{PartialMode}
 use Rattle.pat_tree.specs.declared.options.PartialMode.TheVariants.{Off, Soft, Hard}
@@ -10,16 +11,27 @@ use Rattle.pat_tree.specs.declared.nodes.Verb.TheVariants.{Accept, Fail, Commit,
 use Rattle.pat_tree.specs.Nested as tree
 use Rattle.pat_tree.specs.Nested.{Nested, Row, Test, Other, Callout}
 use Rattle.pat_tree.specs.Groups.{group_of}
-use Rattle.match_items.specs.Items.{one_less, is_none_left, places_back, item_reaches, after_ref, ref_reaches, holds, anchor_reaches}
+use Rattle.match_items.specs.Items.{one_less, is_none_left, places_back, item_reaches, after_ref, ref_reaches, holds}
+use Rattle.match_items.specs.Items.{anchor_reaches}
 use Rattle.pat_lengths.specs.Lengths.{SomeLengths}
-use Rattle.ordered_search.specs.Stream.{State, Ending, by_verb, by_halt, next_branch, prune, skip, commit, is_partial, too_many_units, loop, abort, cut, hit_end, How, reached, accepted, Stream, Search, nothing, gives, no_ending, is_next_branch, is_verb, fails_alone, fails_inside, captured, changes}
+use Rattle.ordered_search.specs.Stream.{State, Ending, by_verb, by_halt, next_branch, prune, skip, commit}
+use Rattle.ordered_search.specs.Stream.{is_partial, too_many_units, loop, abort, cut, hit_end, How, reached}
+use Rattle.ordered_search.specs.Stream.{accepted, Stream, Search, nothing, gives, no_ending, is_next_branch, is_verb}
+use Rattle.ordered_search.specs.Stream.{fails_alone, fails_inside, captured, changes}
 use Rattle.frame_store.specs.Captures.{capture}
 use Rattle.ordered_search.specs.Setting.{Setting, branch_lengths, verb_name, held, hold, counts, reach, reach_if}
-use Rattle.ordered_search.specs.Tests.{move_to, goes_to, run_one, run_break, run_ref, run_anchor, offers, greedy, offer_and, reluctant, lazy_run, run_many}
-use Rattle.ordered_search.specs.Parts.{Searches, in_order, choices, branches, run_group, begun_at, ends_at, one_try, tries, tries_within, run_behind, run_atomic, run_look, asserts, tests, some_set, is_called, is_called_of, block_of, follow, run_callout, named, same_text, skip_to, backs, run_verb, is_over, is_active, turn, run_repeat, returns, run_tree, run_call, back_to, forget_passed}
+use Rattle.ordered_search.specs.Tests.{move_to, goes_to, run_one, run_break, run_ref, run_anchor, offers, greedy}
+use Rattle.ordered_search.specs.Tests.{offer_and, reluctant, lazy_run, run_many}
+use Rattle.ordered_search.specs.Parts.{Searches, in_order, choices, branches, run_group, begun_at, ends_at, one_try}
+use Rattle.ordered_search.specs.Parts.{tries, tries_within, run_behind, run_atomic, run_look, asserts, tests}
+use Rattle.ordered_search.specs.Parts.{some_set, is_called, is_called_of, block_of, follow, run_callout, named}
+use Rattle.ordered_search.specs.Parts.{same_text, skip_to, backs, run_verb, is_over, is_active, turn, run_repeat}
+use Rattle.ordered_search.specs.Parts.{returns, run_tree, run_call, back_to, forget_passed}
 use Rattle.ordered_search.specs.Run.{level, levels, levels_behind, level_test, level_other, run}
 use Rattle.ordered_search.specs.Laws.{CutLaw}
-use Rattle.ordered_search.proofs.Late.{Late, late_zero, late_step, late_step_same, late_note, late_state, late_ends, late_nothing, late_gives, late_if, late_or_else, late_each, late_and_then, late_decide, late_catch, late_law}
+use Rattle.ordered_search.proofs.Late.{Late, late_zero, late_step, late_step_same, late_note, late_state, late_ends}
+use Rattle.ordered_search.proofs.Late.{late_nothing, late_gives, late_if, late_or_else, late_each, late_and_then}
+use Rattle.ordered_search.proofs.Late.{late_decide, late_catch, late_law}
 
 -- every stream of the search is late
 abbrev LateSearch : ℕ → Search → Type 0
@@ -92,7 +104,8 @@ module _ (g : Setting) (n : ℕ) where
   late_ref [] caseless s = late_if n g.options.match_unset_backref _ _ (late_gives n _ _) (late_nothing n)
   late_ref (m ∷ ns) caseless s =
       late_option n (capture s.caps m) _ _ (late_ref ns caseless s)
-      (λ span. late_reach_if (ref_reaches g.scene span.from span.to caseless s.place) s _ (late_goes n (after_ref g.scene span.from span.to caseless s.place) s))
+      (λ span. late_reach_if (ref_reaches g.scene span.from span.to caseless s.place) s _
+      (late_goes n (after_ref g.scene span.from span.to caseless s.place) s))
 
   late_anchor : (kind : AnchorKind) → LateSearch n (run_anchor g kind)
   unfolding run_anchor
@@ -151,7 +164,8 @@ module _ (g : Setting) (n : ℕ) where
       (late_held 1 s _ (λ t. late_and_then n _ _ (h (begun_at p t)) (late_ends_at n s.place)))
       (late_tries (q ∷ ps) f h s))
 
-  late_tries_within : (least : ℕ) (most : Option ℕ) (f : Search) → LateSearch n f → LateSearch n (tries_within g least most f)
+  late_tries_within : (least : ℕ) (most : Option ℕ) (f : Search) → LateSearch n f
+      → LateSearch n (tries_within g least most f)
   unfolding tries_within
   late_tries_within least None f h s = late_nothing n
   late_tries_within least (Some most) f h s =
@@ -212,7 +226,8 @@ module _ (g : Setting) (n : ℕ) where
   unfolding run_callout
   late_callout c f h s = late_note n _ _ (late_follow (g.reply (block_of c s)) (f s) (h s))
 
-  late_named : (name : Option ℕ) (noted : Bool) (s : State) (f : Search) → LateSearch n f → Late n (named name noted s f)
+  late_named : (name : Option ℕ) (noted : Bool) (s : State) (f : Search) → LateSearch n f
+      → Late n (named name noted s f)
   unfolding named
   late_named None noted s f h = h s
   late_named (Some k) false s f h = late_note n _ _ (h _)
@@ -222,7 +237,8 @@ module _ (g : Setting) (n : ℕ) where
   unfolding backs
   late_backs e h s = late_held 1 s _ (λ t. late_state n reached t _ (late_ends n e h))
 
-  skip_is_not_cut : (p : ℕ) (e : Ending) (b : Bool) → e ≢ by_halt cut → elim b [ true ↦ by_verb (skip p) | false ↦ e ] ≢ by_halt cut
+  skip_is_not_cut : (p : ℕ) (e : Ending) (b : Bool) → e ≢ by_halt cut
+      → elim b [ true ↦ by_verb (skip p) | false ↦ e ] ≢ by_halt cut
   skip_is_not_cut p e true h q = cc
   skip_is_not_cut p e false h q = h q
 
@@ -246,7 +262,8 @@ module _ (g : Setting) (n : ℕ) where
 
   late_returns : (s : State) (how : How) → LateSearch n (returns g s how)
   unfolding returns
-  late_returns s how u = late_held (changes u.caps s.caps) (record u { caps = s.caps; calls = s.calls }) _ (late_gives n reached)
+  late_returns s how u = late_held (changes u.caps s.caps) (record u { caps = s.caps; calls = s.calls }) _
+      (late_gives n reached)
 
 -- what is a level deeper is cut after n Steps at least
 abbrev LateBelow : ℕ → Searches → Type 0
@@ -258,7 +275,8 @@ module _ (g : Setting) (n : ℕ) where
   unfolding turn
   late_turn below body low high lazily h s =
       late_step n _ (late_held g n 1 s _ (λ t. late_and_then n (below body t) _ (h body t)
-      (λ u. late_if n (is_over low high s u) _ _ (late_gives n reached u) (h (tree.repeat body (low - 1) (one_less high) lazily) u))))
+      (λ u. late_if n (is_over low high s u) _ _ (late_gives n reached u)
+      (h (tree.repeat body (low - 1) (one_less high) lazily) u))))
 
   late_repeat : (below : Searches) (body : Nested) (low : ℕ) (high : Option ℕ) (lazily : Bool) → LateBelow n below →
       LateSearch (suc n) (run_repeat g below body low high lazily)

@@ -1,20 +1,26 @@
 -- Later start places in the first run of a pattern fail where an earlier one fails.
-use Rattle.std.proofs.Common.{refl, sym, ap, subst, ◌≡◌, ℕ, zero, suc, ◌+◌, ◌≤◌, ◌&&◌, ◌||◌, ◌==◌, not, Bool, true, false, List, [], ◌∷◌, ◌++◌, length, drop, reverse, Option, Some, None, ◌∙◌, arith}
+use Rattle.std.proofs.Common.{refl, sym, ap, subst, ◌≡◌, ℕ, zero, suc, ◌+◌, ◌≤◌, ◌&&◌, ◌||◌, ◌==◌, not, Bool, true}
+use Rattle.std.proofs.Common.{false, List, [], ◌∷◌, ◌++◌, length, drop, reverse, Option, Some, None, ◌∙◌, arith}
 use Rattle.std.specs.Prelude.{nat_le}
 use Rattle.pat_tree.specs.declared.options.PartialMode.TheVariants.{Off}
 use Rattle.pat_tree.specs.declared.nodes.Item.{Item}
 use Rattle.pat_tree.specs.Nested.{Nested, Row, one_repeat, seq, group, none, more}
 use Rattle.match_items.specs.Items.{longest_run}
-use Rattle.ordered_search.specs.Stream.{State, first_state, by_halt, too_many_units, How, reached, accepted, Stream, ends, gives, ◌or_else◌}
+use Rattle.ordered_search.specs.Stream.{State, first_state, by_halt, too_many_units, How, reached, accepted, Stream}
+use Rattle.ordered_search.specs.Stream.{ends, gives, ◌or_else◌}
 use Rattle.ordered_search.specs.Setting.{Setting, match_limit, notempty, notempty_atstart, held, hold}
 use Rattle.ordered_search.specs.Tests.{move_to, offers, greedy, run_many}
 use Rattle.ordered_search.specs.Parts.{Searches, in_order, branches, run_group}
 use Rattle.ordered_search.specs.Run.{level, levels, run}
-use Rattle.ordered_search.specs.PlaceAnswer.{PlaceAnswer, Matched, Failed, Exhausted, Walked, outcome, answers, decision, is_refused_as_empty, is_refused_by_end, walk}
+use Rattle.ordered_search.specs.PlaceAnswer.{PlaceAnswer, Matched, Failed, Exhausted, Walked, outcome, answers}
+use Rattle.ordered_search.specs.PlaceAnswer.{decision, is_refused_as_empty, is_refused_by_end, walk}
 use Rattle.ordered_search.specs.Plain.{IsPlain, ArePlain}
-use Rattle.ordered_search.specs.LaterPlaces.{first_run, run_of_first, run_of_only, BeginsWithRun, run_end, LaterPlacesLaw}
-use Rattle.ordered_search.proofs.FollowStreams.{IsNear, Follows, at_limit, at_stop, at_end, at_state, at_step, follows_gives, follows_or_else, follows_each, follows_and_then}
-use Rattle.ordered_search.proofs.FollowSearch.{KeepsBelow, near_moved, near_captured, keeps_in_order, keep_levels, keeps_run, follows_reach, held_apart, follows_hold}
+use Rattle.ordered_search.specs.LaterPlaces.{first_run, run_of_first, run_of_only, BeginsWithRun, run_end}
+use Rattle.ordered_search.specs.LaterPlaces.{LaterPlacesLaw}
+use Rattle.ordered_search.proofs.FollowStreams.{IsNear, Follows, at_limit, at_stop, at_end, at_state, at_step}
+use Rattle.ordered_search.proofs.FollowStreams.{follows_gives, follows_or_else, follows_each, follows_and_then}
+use Rattle.ordered_search.proofs.FollowSearch.{KeepsBelow, near_moved, near_captured, keeps_in_order, keep_levels}
+use Rattle.ordered_search.proofs.FollowSearch.{keeps_run, follows_reach, held_apart, follows_hold}
 use Rattle.ordered_search.proofs.LaterRuns.{IsRest, begins_reversed, later_rest}
 
 same_item : (a b : Item) → Some a ≡ Some b → a ≡ b

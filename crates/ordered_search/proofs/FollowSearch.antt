@@ -1,6 +1,7 @@
 -- A search for a pattern that goes by the place alone follows one from a state there that holds
 -- more units.
-use Rattle.std.proofs.Common.{refl, sym, ap₂, subst, ◌≡◌, ℕ, zero, suc, ◌+◌, ◌-◌, ◌≤◌, ◌&&◌, ◌==◌, Bool, true, false, List, [], ◌∷◌, drop, reverse, Option, Some, None, arith}
+use Rattle.std.proofs.Common.{refl, sym, ap₂, subst, ◌≡◌, ℕ, zero, suc, ◌+◌, ◌-◌, ◌≤◌, ◌&&◌, ◌==◌, Bool, true, false}
+use Rattle.std.proofs.Common.{List, [], ◌∷◌, drop, reverse, Option, Some, None, arith}
 use Rattle.std.specs.Prelude.{nat_le, option_map}
 use Rattle.std.proofs.lemmas.Bool.Decides.{nat_tests}
 use Rattle.pat_tree.specs.declared.options.PartialMode.TheVariants.{Off}
@@ -8,15 +9,23 @@ use Rattle.pat_tree.specs.declared.nodes.Item.{Item}
 use Rattle.pat_tree.specs.declared.nodes.AnchorKind.{AnchorKind}
 use Rattle.pat_tree.specs.Nested as tree
 use Rattle.pat_tree.specs.Nested.{Nested, Row, Test, Other}
-use Rattle.match_items.specs.Items.{one_less, is_none_left, places_back, after_item, after_break, longest_run, earliest, holds}
+use Rattle.match_items.specs.Items.{one_less, is_none_left, places_back, after_item, after_break, longest_run}
+use Rattle.match_items.specs.Items.{earliest, holds}
 use Rattle.pat_lengths.specs.Lengths.{SomeLengths}
-use Rattle.ordered_search.specs.Stream.{State, by_halt, too_many_units, cut, How, reached, Stream, Search, ends, nothing, gives, and_then, catch, no_ending, is_next_branch, fails_alone, fails_inside, captured}
+use Rattle.ordered_search.specs.Stream.{State, by_halt, too_many_units, cut, How, reached, Stream, Search, ends}
+use Rattle.ordered_search.specs.Stream.{nothing, gives, and_then, catch, no_ending, is_next_branch, fails_alone}
+use Rattle.ordered_search.specs.Stream.{fails_inside, captured}
 use Rattle.ordered_search.specs.Setting.{Setting, branch_lengths, held, hold, reach, reach_if}
-use Rattle.ordered_search.specs.Tests.{move_to, goes_to, run_one, run_break, run_anchor, offers, greedy, offer_and, reluctant, lazy_run, run_many}
-use Rattle.ordered_search.specs.Parts.{Searches, in_order, choices, branches, run_group, begun_at, ends_at, one_try, tries, tries_within, run_behind, run_atomic, run_look, asserts, is_over, turn, run_repeat, back_to, forget_passed}
+use Rattle.ordered_search.specs.Tests.{move_to, goes_to, run_one, run_break, run_anchor, offers, greedy, offer_and}
+use Rattle.ordered_search.specs.Tests.{reluctant, lazy_run, run_many}
+use Rattle.ordered_search.specs.Parts.{Searches, in_order, choices, branches, run_group, begun_at, ends_at, one_try}
+use Rattle.ordered_search.specs.Parts.{tries, tries_within, run_behind, run_atomic, run_look, asserts, is_over, turn}
+use Rattle.ordered_search.specs.Parts.{run_repeat, back_to, forget_passed}
 use Rattle.ordered_search.specs.Run.{level, levels, levels_behind, level_test, level_other, run}
 use Rattle.ordered_search.specs.Plain.{IsPlain, ArePlain, IsPlainTest, IsPlainOther}
-use Rattle.ordered_search.proofs.FollowStreams.{IsNear, Follows, at_limit, at_end, at_step, Keeps, follows_nothing, follows_gives, follows_if, follows_or_else, follows_each, follows_and_then, follows_decide, follows_catch}
+use Rattle.ordered_search.proofs.FollowStreams.{IsNear, Follows, at_limit, at_end, at_step, Keeps, follows_nothing}
+use Rattle.ordered_search.proofs.FollowStreams.{follows_gives, follows_if, follows_or_else, follows_each}
+use Rattle.ordered_search.proofs.FollowStreams.{follows_and_then, follows_decide, follows_catch}
 
 abbrev pub AllKeep : List Search → Type 0
 AllKeep [] = Unit {0}

@@ -1,7 +1,9 @@
 -- Streams of which one follows the other: the same events, from states at the same places that hold
 -- no more units.
 use Rattle.std.proofs.Common.{◌≡◌, ◌≤◌, Bool, true, false}
-use Rattle.ordered_search.specs.Stream.{State, Ending, exhausted, by_verb, by_halt, too_many_units, How, reached, accepted, state, step, Stream, Search, ends, ◌▸◌, nothing, gives, ◌or_else◌, each, and_then, go_on, decide, catch}
+use Rattle.ordered_search.specs.Stream.{State, Ending, exhausted, by_verb, by_halt, too_many_units, How, reached}
+use Rattle.ordered_search.specs.Stream.{accepted, state, step, Stream, Search, ends, ◌▸◌, nothing, gives, ◌or_else◌}
+use Rattle.ordered_search.specs.Stream.{each, and_then, go_on, decide, catch}
 
 -- at the same place, with no more units
 pub record IsNear (t s : State) : Type 0 where

@@ -1,5 +1,6 @@
 -- Without partial matching no stream of a search tells a hit of the subject's end.
-use Rattle.std.proofs.Common.{refl, ◌≡◌, ◌≢◌, ℕ, zero, suc, ◌+◌, ◌-◌, Bool, true, false, List, [], ◌∷◌, drop, reverse, ℤ, pos, negsuc, Option, Some, None}
+use Rattle.std.proofs.Common.{refl, ◌≡◌, ◌≢◌, ℕ, zero, suc, ◌+◌, ◌-◌, Bool, true, false, List, [], ◌∷◌, drop}
+use Rattle.std.proofs.Common.{reverse, ℤ, pos, negsuc, Option, Some, None}
 use Rattle.std.specs.Prelude.{nat_le, ◌==◌}
 use Rattle.pat_tree.specs.declared.options.PartialMode.{PartialMode}
 use Rattle.pat_tree.specs.declared.options.PartialMode.TheVariants.{Off, Soft, Hard}
@@ -10,15 +11,26 @@ use Rattle.pat_tree.specs.declared.nodes.Verb.TheVariants.{Accept, Fail, Commit,
 use Rattle.pat_tree.specs.Nested as tree
 use Rattle.pat_tree.specs.Nested.{Nested, Row, Test, Other, Callout}
 use Rattle.pat_tree.specs.Groups.{group_of}
-use Rattle.match_items.specs.Items.{one_less, is_none_left, places_back, item_reaches, after_ref, ref_reaches, holds, anchor_reaches}
+use Rattle.match_items.specs.Items.{one_less, is_none_left, places_back, item_reaches, after_ref, ref_reaches, holds}
+use Rattle.match_items.specs.Items.{anchor_reaches}
 use Rattle.pat_lengths.specs.Lengths.{SomeLengths}
-use Rattle.ordered_search.specs.Stream.{State, Ending, by_verb, by_halt, next_branch, prune, skip, commit, is_partial, too_many_units, loop, abort, cut, How, reached, accepted, Stream, Search, nothing, gives, no_ending, is_next_branch, is_verb, fails_alone, fails_inside, captured, changes}
+use Rattle.ordered_search.specs.Stream.{State, Ending, by_verb, by_halt, next_branch, prune, skip, commit}
+use Rattle.ordered_search.specs.Stream.{is_partial, too_many_units, loop, abort, cut, How, reached, accepted, Stream}
+use Rattle.ordered_search.specs.Stream.{Search, nothing, gives, no_ending, is_next_branch, is_verb, fails_alone}
+use Rattle.ordered_search.specs.Stream.{fails_inside, captured, changes}
 use Rattle.frame_store.specs.Captures.{capture}
 use Rattle.ordered_search.specs.Setting.{Setting, branch_lengths, verb_name, held, hold, reach, reach_if}
-use Rattle.ordered_search.specs.Tests.{move_to, goes_to, run_one, run_break, run_ref, run_anchor, offers, greedy, offer_and, reluctant, lazy_run, run_many}
-use Rattle.ordered_search.specs.Parts.{Searches, in_order, choices, branches, run_group, begun_at, ends_at, one_try, tries, tries_within, run_behind, run_atomic, run_look, asserts, tests, some_set, is_called, is_called_of, block_of, follow, run_callout, named, same_text, skip_to, backs, run_verb, is_over, is_active, turn, run_repeat, returns, run_tree, run_call, back_to, forget_passed}
+use Rattle.ordered_search.specs.Tests.{move_to, goes_to, run_one, run_break, run_ref, run_anchor, offers, greedy}
+use Rattle.ordered_search.specs.Tests.{offer_and, reluctant, lazy_run, run_many}
+use Rattle.ordered_search.specs.Parts.{Searches, in_order, choices, branches, run_group, begun_at, ends_at, one_try}
+use Rattle.ordered_search.specs.Parts.{tries, tries_within, run_behind, run_atomic, run_look, asserts, tests}
+use Rattle.ordered_search.specs.Parts.{some_set, is_called, is_called_of, block_of, follow, run_callout, named}
+use Rattle.ordered_search.specs.Parts.{same_text, skip_to, backs, run_verb, is_over, is_active, turn, run_repeat}
+use Rattle.ordered_search.specs.Parts.{returns, run_tree, run_call, back_to, forget_passed}
 use Rattle.ordered_search.specs.Run.{level, levels, levels_behind, level_test, level_other, run}
-use Rattle.ordered_search.proofs.HitlessStreams.{NoHit, hitless_step, hitless_note, hitless_state, hitless_ends, hitless_nothing, hitless_gives, hitless_if, hitless_or_else, hitless_each, hitless_and_then, hitless_decide, hitless_catch}
+use Rattle.ordered_search.proofs.HitlessStreams.{NoHit, hitless_step, hitless_note, hitless_state, hitless_ends}
+use Rattle.ordered_search.proofs.HitlessStreams.{hitless_nothing, hitless_gives, hitless_if, hitless_or_else}
+use Rattle.ordered_search.proofs.HitlessStreams.{hitless_each, hitless_and_then, hitless_decide, hitless_catch}
 
 -- no stream of the search tells a hit
 abbrev NoHitSearch : Search → Type 0
@@ -37,7 +49,8 @@ hitless_option : {A : Type 0} (o : Option A) (x : Stream) (f : A → Stream) →
 hitless_option None x f h k = h
 hitless_option (Some a) x f h k = k a
 
-hitless_mode : (mode : PartialMode) (x y z : Stream) → mode ≡ Off → NoHit x → NoHit (elim mode [ Off ↦ x | Soft ↦ y | Hard ↦ z ])
+hitless_mode : (mode : PartialMode) (x y z : Stream) → mode ≡ Off → NoHit x
+    → NoHit (elim mode [ Off ↦ x | Soft ↦ y | Hard ↦ z ])
 hitless_mode Off x y z e h = h
 hitless_mode Soft x y z e h = absurd (cc)
 hitless_mode Hard x y z e h = absurd (cc)
@@ -63,7 +76,8 @@ module _ (g : Setting) (off : g.matching.«partial» ≡ Off) where
   hitless_held : (k : ℕ) (s : State) (f : Search) → NoHitSearch f → NoHit (held g k s f)
   unfolding held
   hitless_held k s f h =
-      hitless_if (nat_le (s.units + k) g.matching.frame_limit) _ _ (h _) (hitless_ends (by_halt too_many_units) (λ e. cc))
+      hitless_if (nat_le (s.units + k) g.matching.frame_limit) _ _ (h _)
+      (hitless_ends (by_halt too_many_units) (λ e. cc))
 
   hitless_hold : (how : How) → NoHitSearch (hold g how)
   unfolding hold
@@ -91,7 +105,8 @@ module _ (g : Setting) (off : g.matching.«partial» ≡ Off) where
   hitless_ref [] caseless s = hitless_if g.options.match_unset_backref _ _ (hitless_gives _ _) (hitless_nothing)
   hitless_ref (m ∷ ns) caseless s =
       hitless_option (capture s.caps m) _ _ (hitless_ref ns caseless s)
-      (λ span. hitless_reach_if (ref_reaches g.scene span.from span.to caseless s.place) s _ (hitless_goes (after_ref g.scene span.from span.to caseless s.place) s))
+      (λ span. hitless_reach_if (ref_reaches g.scene span.from span.to caseless s.place) s _
+      (hitless_goes (after_ref g.scene span.from span.to caseless s.place) s))
 
   hitless_anchor : (kind : AnchorKind) → NoHitSearch (run_anchor g kind)
   unfolding run_anchor
@@ -121,7 +136,8 @@ module _ (g : Setting) (off : g.matching.«partial» ≡ Off) where
   unfolding lazy_run
   hitless_lazy item low high ps s = hitless_reach_if _ s _ (hitless_reluctant item _ (drop low (s.place ∷ ps)) s)
 
-  hitless_many : (item : Item) (low : ℕ) (high : Option ℕ) (lazily : Bool) → NoHitSearch (run_many g item low high lazily)
+  hitless_many : (item : Item) (low : ℕ) (high : Option ℕ) (lazily : Bool)
+      → NoHitSearch (run_many g item low high lazily)
   unfolding run_many greedy
   hitless_many item low high false s = hitless_reach_if _ s _ (hitless_offers _ s)
   hitless_many item low high true s = hitless_lazy item low high _ s
@@ -150,7 +166,8 @@ module _ (g : Setting) (off : g.matching.«partial» ≡ Off) where
       (hitless_held 1 s _ (λ t. hitless_and_then _ _ (h (begun_at p t)) (hitless_ends_at s.place)))
       (hitless_tries (q ∷ ps) f h s))
 
-  hitless_tries_within : (least : ℕ) (most : Option ℕ) (f : Search) → NoHitSearch f → NoHitSearch (tries_within g least most f)
+  hitless_tries_within : (least : ℕ) (most : Option ℕ) (f : Search) → NoHitSearch f
+      → NoHitSearch (tries_within g least most f)
   unfolding tries_within
   hitless_tries_within least None f h s = hitless_nothing
   hitless_tries_within least (Some most) f h s =
@@ -211,7 +228,8 @@ module _ (g : Setting) (off : g.matching.«partial» ≡ Off) where
   unfolding run_callout
   hitless_callout c f h s = hitless_note _ _ refl (hitless_follow (g.reply (block_of c s)) (f s) (h s))
 
-  hitless_named : (name : Option ℕ) (noted : Bool) (s : State) (f : Search) → NoHitSearch f → NoHit (named name noted s f)
+  hitless_named : (name : Option ℕ) (noted : Bool) (s : State) (f : Search) → NoHitSearch f
+      → NoHit (named name noted s f)
   unfolding named
   hitless_named None noted s f h = h s
   hitless_named (Some k) false s f h = hitless_note _ _ refl (h _)
@@ -221,14 +239,16 @@ module _ (g : Setting) (off : g.matching.«partial» ≡ Off) where
   unfolding backs
   hitless_backs e h s = hitless_held 1 s _ (λ t. hitless_state reached t _ (hitless_ends e h))
 
-  skip_is_not_partial : (p : ℕ) (e : Ending) (b : Bool) → e ≢ by_halt is_partial → elim b [ true ↦ by_verb (skip p) | false ↦ e ] ≢ by_halt is_partial
+  skip_is_not_partial : (p : ℕ) (e : Ending) (b : Bool) → e ≢ by_halt is_partial
+      → elim b [ true ↦ by_verb (skip p) | false ↦ e ] ≢ by_halt is_partial
   skip_is_not_partial p e true h q = cc
   skip_is_not_partial p e false h q = h q
 
   skip_to_is_not_partial : (k : ℕ) (ms : List (ℕ × ℕ)) → skip_to g k ms ≢ by_halt is_partial
   skip_to_is_not_partial k [] e = cc
   skip_to_is_not_partial k (m ∷ ms) e =
-      skip_is_not_partial m.1 (skip_to g k ms) (same_text (verb_name g k) (verb_name g m.0)) (skip_to_is_not_partial k ms) e
+      skip_is_not_partial m.1 (skip_to g k ms) (same_text (verb_name g k) (verb_name g m.0))
+      (skip_to_is_not_partial k ms) e
 
   hitless_verb : (v : Verb) → NoHitSearch (run_verb g v)
   unfolding run_verb
@@ -245,14 +265,16 @@ module _ (g : Setting) (off : g.matching.«partial» ≡ Off) where
 
   hitless_returns : (s : State) (how : How) → NoHitSearch (returns g s how)
   unfolding returns
-  hitless_returns s how u = hitless_held (changes u.caps s.caps) (record u { caps = s.caps; calls = s.calls }) _ (hitless_gives reached)
+  hitless_returns s how u = hitless_held (changes u.caps s.caps) (record u { caps = s.caps; calls = s.calls }) _
+      (hitless_gives reached)
 
   hitless_turn : (below : Searches) (body : Nested) (low : ℕ) (high : Option ℕ) (lazily : Bool) → NoHitBelow below →
       NoHitSearch (turn g below body low high lazily)
   unfolding turn
   hitless_turn below body low high lazily h s =
       hitless_step _ (hitless_held 1 s _ (λ t. hitless_and_then (below body t) _ (h body t)
-      (λ u. hitless_if (is_over low high s u) _ _ (hitless_gives reached u) (h (tree.repeat body (low - 1) (one_less high) lazily) u))))
+      (λ u. hitless_if (is_over low high s u) _ _ (hitless_gives reached u)
+      (h (tree.repeat body (low - 1) (one_less high) lazily) u))))
 
   hitless_repeat : (below : Searches) (body : Nested) (low : ℕ) (high : Option ℕ) (lazily : Bool) → NoHitBelow below →
       NoHitSearch (run_repeat g below body low high lazily)

@@ -1,6 +1,8 @@
 -- Streams that tell no hit of the subject's end and are not ended by a partial match.
 use Rattle.std.proofs.Common.{◌≡◌, ◌≢◌, Bool, true, false}
-use Rattle.ordered_search.specs.Stream.{State, Ending, exhausted, by_verb, by_halt, is_partial, Note, How, reached, accepted, note, state, step, Stream, Search, ends, ◌▸◌, nothing, gives, ◌or_else◌, each, and_then, go_on, decide, catch}
+use Rattle.ordered_search.specs.Stream.{State, Ending, exhausted, by_verb, by_halt, is_partial, Note, How, reached}
+use Rattle.ordered_search.specs.Stream.{accepted, note, state, step, Stream, Search, ends, ◌▸◌, nothing, gives}
+use Rattle.ordered_search.specs.Stream.{◌or_else◌, each, and_then, go_on, decide, catch}
 use Rattle.ordered_search.specs.PlaceAnswer.{is_hit}
 
 unfoldable pub NoHit : Stream → Type 0
@@ -45,7 +47,8 @@ hitless_or_else (note m ▸ x) y h k = (h.0, hitless_or_else x y h.1 k)
 hitless_or_else (state how s ▸ x) y h k = hitless_or_else x y h k
 hitless_or_else (step ▸ x) y h k = hitless_or_else x y h k
 
-pub hitless_each : (x : Stream) (f : How → Search) → NoHit x → ((how : How) (s : State) → NoHit (f how s)) → NoHit (each x f)
+pub hitless_each : (x : Stream) (f : How → Search) → NoHit x → ((how : How) (s : State) → NoHit (f how s))
+    → NoHit (each x f)
 unfolding NoHit each
 hitless_each (ends e) f h k = h
 hitless_each (note m ▸ x) f h k = (h.0, hitless_each x f h.1 k)
@@ -55,7 +58,8 @@ hitless_each (step ▸ x) f h k = hitless_each x f h k
 pub hitless_and_then : (x : Stream) (f : Search) → NoHit x → ((s : State) → NoHit (f s)) → NoHit (and_then x f)
 hitless_and_then x f h k = hitless_each x (go_on f) h (elim [ reached ↦ k | accepted ↦ hitless_gives accepted ])
 
-pub hitless_decide : (fails : Ending → Bool) (x : Stream) (f : How → Search) (y : Stream) → NoHit x → ((how : How) (s : State) → NoHit (f how s)) → NoHit y
+pub hitless_decide : (fails : Ending → Bool) (x : Stream) (f : How → Search) (y : Stream) → NoHit x
+    → ((how : How) (s : State) → NoHit (f how s)) → NoHit y
     → NoHit (decide fails x f y)
 unfolding NoHit decide
 hitless_decide fails (ends e) f y h k l = hitless_if (fails e) y (ends e) l h

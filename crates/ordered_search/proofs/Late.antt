@@ -1,6 +1,8 @@
 -- Streams that are cut late: after n Steps at least.
 use Rattle.std.proofs.Common.{◌≡◌, ◌≢◌, ℕ, zero, suc, ◌≤◌, Bool, true, false, arith}
-use Rattle.ordered_search.specs.Stream.{State, Ending, exhausted, by_verb, by_halt, cut, Note, How, reached, accepted, note, state, step, Stream, Search, ends, ◌▸◌, nothing, gives, ◌or_else◌, each, and_then, go_on, decide, catch}
+use Rattle.ordered_search.specs.Stream.{State, Ending, exhausted, by_verb, by_halt, cut, Note, How, reached}
+use Rattle.ordered_search.specs.Stream.{accepted, note, state, step, Stream, Search, ends, ◌▸◌, nothing, gives}
+use Rattle.ordered_search.specs.Stream.{◌or_else◌, each, and_then, go_on, decide, catch}
 use Rattle.ordered_search.specs.Laws.{ending, step_count}
 
 -- the ending may come after n more Steps

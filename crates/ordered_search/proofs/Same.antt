@@ -8,5 +8,6 @@ use Rattle.ordered_search.specs.Moves.{Moves, Follow, holding}
 pub follow_same : (k l : Follow) → ((how : How) (s : State) (f : Moves) → k how s f ≡ l how s f) → k ≡ l
 follow_same k l e = fun_ext (λ how. fun_ext (λ s. fun_ext (λ f. e how s f)))
 
-pub holding_same : (g : Setting) (n : ℕ) (s : State) (x y : State → Moves) → ((t : State) → x t ≡ y t) → holding g n s x ≡ holding g n s y
+pub holding_same : (g : Setting) (n : ℕ) (s : State) (x y : State → Moves) → ((t : State) → x t ≡ y t)
+    → holding g n s x ≡ holding g n s y
 holding_same g n s x y same = ap (λ (z : State → Moves). holding g n s z) (fun_ext same)

@@ -1,8 +1,13 @@
 -- What a walk meets before its answer.
-use Rattle.std.proofs.Common.{◌≡◌, ◌≢◌, ℕ, zero, suc, ◌+◌, ◌<◌, Bool, true, false, [], ◌∷◌, Option, Some, None, refl, ap, arith}
-use Rattle.ordered_search.specs.Stream.{State, first_state, exhausted, by_verb, by_halt, is_partial, too_many_units, loop, abort, cut, How, reached, accepted, note, state, step, Stream, ends, ◌▸◌}
+use Rattle.std.proofs.Common.{◌≡◌, ◌≢◌, ℕ, zero, suc, ◌+◌, ◌<◌, Bool, true, false, [], ◌∷◌, Option, Some, None, refl}
+use Rattle.std.proofs.Common.{ap, arith}
+use Rattle.ordered_search.specs.Stream.{State, first_state, exhausted, by_verb, by_halt, is_partial, too_many_units}
+use Rattle.ordered_search.specs.Stream.{loop, abort, cut, How, reached, accepted, note, state, step, Stream, ends}
+use Rattle.ordered_search.specs.Stream.{◌▸◌}
 use Rattle.ordered_search.specs.Setting.{Setting, match_limit}
-use Rattle.ordered_search.specs.PlaceAnswer.{PlaceAnswer, Matched, Failed, Exhausted, outcome, MatchLimit, NoDepth, Walked, answers, at_ending, decision, is_refused_as_empty, is_refused_by_end, walk, Partial}
+use Rattle.ordered_search.specs.PlaceAnswer.{PlaceAnswer, Matched, Failed, Exhausted, outcome, MatchLimit, NoDepth}
+use Rattle.ordered_search.specs.PlaceAnswer.{Walked, answers, at_ending, decision, is_refused_as_empty}
+use Rattle.ordered_search.specs.PlaceAnswer.{is_refused_by_end, walk, Partial}
 use Rattle.ordered_search.specs.Laws.{after, told_in, steps_in, ArePassed, Gives, IsWalk, WalkLaw, NoCutAnswer}
 use Rattle.ordered_search.proofs.Late.{Late, LateEnd}
 use Rattle.ordered_search.proofs.CutLaw.{late_run}
@@ -82,7 +87,8 @@ module _ (g : Setting) where
 
   -- a walk of fewer Steps than a stream is late by never meets the cut
 
-  decided_late : (how : How) (s : State) (w : Walked) (d : Option PlaceAnswer) → decision g how s ≡ d → w.answer ≢ NoDepth →
+  decided_late : (how : How) (s : State) (w : Walked) (d : Option PlaceAnswer) → decision g how s ≡ d
+      → w.answer ≢ NoDepth →
       (let v : Walked = elim d [ None ↦ w | Some a ↦ answers a ] in v).answer ≢ NoDepth
   decided_late how s w None q h e = h e
   decided_late how s w (Some a) q h e = (decided (is_refused_as_empty g s) (is_refused_by_end g s) how s a q).0 e
@@ -107,4 +113,5 @@ pub walk_law : WalkLaw
 walk_law g n x = walks g n x
 
 pub no_cut : NoCutAnswer
-no_cut g p = walk_late g (match_limit g) _ _ (omega arith) (late_run g (match_limit g + 1) g.whole (first_state g.groups p))
+no_cut g p = walk_late g (match_limit g) _ _ (omega arith)
+    (late_run g (match_limit g + 1) g.whole (first_state g.groups p))

@@ -11,8 +11,8 @@ abbrev pub IsWithin : ℕ → Option Span → Type 0
 IsWithin n None = Unit {0}
 IsWithin n (Some span) = (span.from ≤ span.to) × (span.to ≤ n)
 
--- The text of a match begins at the start or past it, and it and the captures lie in the subject; a character begins where
--- it ends, or the subject ends there.
+-- The text of a match begins at the start or past it, and it and the captures lie in the subject; a character begins
+-- where it ends, or the subject ends there.
 pub record IsPlaced (g : Setting) (o : Outcome) : Type 0 where
   pub begins : g.start ≤ o.keep
   pub ordered : o.keep ≤ o.to
@@ -21,8 +21,8 @@ pub record IsPlaced (g : Setting) (o : Outcome) : Type 0 where
   pub caps : All (IsWithin (length g.subject)) o.caps
   pub groups : length o.caps ≡ g.groups
 
--- a match, none, a partial match from a place at the start or past it, a limit, a recursion at the same place, or a callout's
--- number
+-- a match, none, a partial match from a place at the start or past it, a limit, a recursion at the same place, or a
+-- callout's number
 abbrev pub IsPlain : Setting → MatchAnswer → Type 0
 IsPlain g (Match o) = IsPlaced g o
 IsPlain g NoMatch = Unit {0}

@@ -5,7 +5,8 @@ use Rattle.pat_tree.specs.Nested.{Nested}
 use Rattle.ordered_search.specs.Stream.{State, Ending, by_halt, cut, Note, Event, note, state, step, Stream, ends, ◌▸◌}
 use Rattle.ordered_search.specs.Setting.{Setting}
 use Rattle.ordered_search.specs.Run.{run}
-use Rattle.ordered_search.specs.PlaceAnswer.{PlaceAnswer, MatchLimit, NoDepth, Walked, at_ending, decision, walk, place_answer}
+use Rattle.ordered_search.specs.PlaceAnswer.{PlaceAnswer, MatchLimit, NoDepth, Walked, at_ending, decision, walk}
+use Rattle.ordered_search.specs.PlaceAnswer.{place_answer}
 use Rattle.ordered_search.specs.MatchAnswer.{PartialFrom, match_answer}
 
 -- The depth.
@@ -23,7 +24,8 @@ step_count (step ▸ x) = suc (step_count x)
 
 -- The depth d is used up only after d Steps.
 abbrev pub CutLaw : Type 0
-CutLaw = (g : Setting) (d : ℕ) (t : Nested) (s : State) → ending (run g d t s) ≡ by_halt cut → d ≤ step_count (run g d t s)
+CutLaw = (g : Setting) (d : ℕ) (t : Nested) (s : State) → ending (run g d t s) ≡ by_halt cut
+    → d ≤ step_count (run g d t s)
 
 -- So no place is answered by it.
 abbrev pub NoCutAnswer : Type 0
@@ -56,7 +58,8 @@ ArePassed g (note k ∷ es) = ArePassed g es
 ArePassed g (state how s ∷ es) = (decision g how s ≡ None) × ArePassed g es
 ArePassed g (step ∷ es) = ArePassed g es
 
--- what comes next gives the answer: the ending, a state that is admitted or ends its place, or a Step where none is left
+-- what comes next gives the answer: the ending, a state that is admitted or ends its place, or a Step where none is
+-- left
 unfoldable pub Gives : Setting → ℕ → Stream → PlaceAnswer → Type 0
 Gives g left (ends e) a = a ≡ at_ending e
 Gives g left (note k ▸ x) a = ⊥

@@ -2,7 +2,8 @@
 use Rattle.std.specs.Prelude.{ℕ, zero, suc, ◌+◌, ◌-◌, Bool, true, false, List, [], ◌++◌, length, Option, Some, None}
 use Rattle.ordered_search.specs.Stream.{Note}
 use Rattle.ordered_search.specs.Setting.{Setting}
-use Rattle.ordered_search.specs.PlaceAnswer.{Outcome, Signal, Exhausted, PlaceAnswer, Matched, Failed, Partial, Walked, answers, has_hit, place_answer}
+use Rattle.ordered_search.specs.PlaceAnswer.{Outcome, Signal, Exhausted, PlaceAnswer, Matched, Failed, Partial}
+use Rattle.ordered_search.specs.PlaceAnswer.{Walked, answers, has_hit, place_answer}
 use Rattle.ordered_search.specs.Places.{within, place_after, is_excluded}
 
 pub data MatchAnswer : Type 0 where

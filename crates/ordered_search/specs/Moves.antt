@@ -1,7 +1,9 @@
 -- The stream of a search as a machine goes through it: with a pause for each turn of its loop that meets nothing.
 use Rattle.std.specs.Prelude.{ℕ, zero, suc, ◌+◌, Bool, true, false, Option, Some, None, nat_le}
 use Rattle.pat_tree.specs.declared.options.PartialMode.TheVariants.{Off, Soft, Hard}
-use Rattle.ordered_search.specs.Stream.{State, VerbEnding, next_branch, is_partial, too_many_units, Ending, exhausted, by_verb, by_halt, Note, hit_end, How, reached, note, state, step, Stream, ends, ◌▸◌}
+use Rattle.ordered_search.specs.Stream.{State, VerbEnding, next_branch, is_partial, too_many_units, Ending}
+use Rattle.ordered_search.specs.Stream.{exhausted, by_verb, by_halt, Note, hit_end, How, reached, note, state, step}
+use Rattle.ordered_search.specs.Stream.{Stream, ends, ◌▸◌}
 use Rattle.ordered_search.specs.Setting.{Setting, counts}
 use Rattle.ordered_search.specs.Tests.{move_to}
 use Rattle.ordered_search.specs.PlaceAnswer.{Walked, MatchLimit, answers, with_note, at_ending, decision}

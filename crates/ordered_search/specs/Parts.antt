@@ -1,12 +1,17 @@
 -- What each construct makes of the searches of its parts.
-use Rattle.std.specs.Prelude.{ℕ, zero, suc, ◌-◌, Bool, true, false, ◌&&◌, ◌||◌, List, [], ◌∷◌, Option, Some, None, ℤ, pos, negsuc, ◌==◌, nat_le, min, drop, reverse}
+use Rattle.std.specs.Prelude.{ℕ, zero, suc, ◌-◌, Bool, true, false, ◌&&◌, ◌||◌, List, [], ◌∷◌, Option, Some, None, ℤ}
+use Rattle.std.specs.Prelude.{pos, negsuc, ◌==◌, nat_le, min, drop, reverse}
 use Rattle.pat_tree.specs.declared.nodes.Verb.{Verb}
 use Rattle.pat_tree.specs.declared.nodes.Verb.TheVariants.{Accept, Fail, Commit, Prune, Skip, Then, Mark}
 use Rattle.pat_tree.specs.Nested.{Nested, Callout, repeat}
 use Rattle.pat_tree.specs.Groups.{group_of}
 use Rattle.match_items.specs.Items.{one_less, places_back}
 use Rattle.pat_lengths.specs.Lengths.{SomeLengths}
-use Rattle.ordered_search.specs.Stream.{State, Block, next_branch, prune, skip, commit, loop, abort, Ending, exhausted, by_verb, by_halt, How, reached, accepted, note, step, name, shown, state, Stream, Search, ends, ◌▸◌, nothing, gives, ◌or_else◌, each, and_then, decide, catch, no_ending, is_next_branch, is_verb, fails_alone, fails_inside, captured, changes}
+use Rattle.ordered_search.specs.Stream.{State, Block, next_branch, prune, skip, commit, loop, abort, Ending}
+use Rattle.ordered_search.specs.Stream.{exhausted, by_verb, by_halt, How, reached, accepted, note, step, name, shown}
+use Rattle.ordered_search.specs.Stream.{state, Stream, Search, ends, ◌▸◌, nothing, gives, ◌or_else◌, each, and_then}
+use Rattle.ordered_search.specs.Stream.{decide, catch, no_ending, is_next_branch, is_verb, fails_alone, fails_inside}
+use Rattle.ordered_search.specs.Stream.{captured, changes}
 use Rattle.frame_store.specs.Captures.{Captures, capture}
 use Rattle.ordered_search.specs.Setting.{Setting, held, hold, verb_name}
 
@@ -164,7 +169,8 @@ module _ (g : Setting) where
   -- the place that was last passed under this name
   abbrev pub skip_to : ℕ → List (ℕ × ℕ) → Ending
   skip_to n [] = exhausted
-  skip_to n (m ∷ ms) = elim (same_text (verb_name g n) (verb_name g m.0)) [ true ↦ by_verb (skip m.1) | false ↦ skip_to n ms ]
+  skip_to n (m ∷ ms) = elim (same_text (verb_name g n) (verb_name g m.0))
+      [ true ↦ by_verb (skip m.1) | false ↦ skip_to n ms ]
 
   -- goes on, and ends so when it is backtracked onto
   unfoldable pub backs : Ending → Search
@@ -223,5 +229,6 @@ module _ (g : Setting) where
       step ▸ elim (is_active n s.place s.calls) [
         | true ↦ ends (by_halt loop)
         | false ↦ held g 1 s (λ t.
-            catch is_verb (each (run_tree (group_of g.whole n) below (record t { calls = (n, s.place) ∷ s.calls })) (returns s)))
+            catch is_verb (each (run_tree (group_of g.whole n) below (record t { calls = (n, s.place) ∷ s.calls }))
+            (returns s)))
       ]

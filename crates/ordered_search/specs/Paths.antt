@@ -1,21 +1,27 @@
--- The ordered search as a machine goes through it: each tree before what follows it. Without its pauses it is the search
--- of the definitions.
-use Rattle.std.specs.Prelude.{ℕ, zero, suc, ◌-◌, Bool, true, false, List, [], ◌∷◌, drop, take, reverse, Option, Some, None, option_map, ℤ, pos, negsuc, ◌==◌}
+-- The ordered search as a machine goes through it: each tree before what follows it. Without its pauses it is the
+-- search of the definitions.
+use Rattle.std.specs.Prelude.{ℕ, zero, suc, ◌-◌, Bool, true, false, List, [], ◌∷◌, drop, take, reverse, Option, Some}
+use Rattle.std.specs.Prelude.{None, option_map, ℤ, pos, negsuc, ◌==◌}
 use Rattle.pat_tree.specs.declared.nodes.Item.{Item}
 use Rattle.pat_tree.specs.declared.nodes.AnchorKind.{AnchorKind}
 use Rattle.pat_tree.specs.declared.nodes.Verb.{Verb}
 use Rattle.pat_tree.specs.declared.nodes.Verb.TheVariants.{Accept, Fail, Commit, Prune, Skip, Then, Mark}
 use Rattle.pat_tree.specs.Nested as tree
 use Rattle.pat_tree.specs.Nested.{Nested, Row, Test, Other}
-use Rattle.match_items.specs.Items.{one_less, is_none_left, after_item, item_reaches, longest_run, run_reaches, after_break, break_reaches, after_ref, ref_reaches, holds, anchor_reaches, earliest, places_back}
+use Rattle.match_items.specs.Items.{one_less, is_none_left, after_item, item_reaches, longest_run, run_reaches}
+use Rattle.match_items.specs.Items.{after_break, break_reaches, after_ref, ref_reaches, holds, anchor_reaches}
+use Rattle.match_items.specs.Items.{earliest, places_back}
 use Rattle.pat_lengths.specs.Lengths.{SomeLengths}
 use Rattle.frame_store.specs.Captures.{capture}
 use Rattle.pat_tree.specs.Groups.{group_of}
-use Rattle.ordered_search.specs.Stream.{State, next_branch, prune, skip, commit, Ending, exhausted, by_verb, by_halt, cut, loop, abort, changes, name, shown, How, reached, accepted, captured}
+use Rattle.ordered_search.specs.Stream.{State, next_branch, prune, skip, commit, Ending, exhausted, by_verb, by_halt}
+use Rattle.ordered_search.specs.Stream.{cut, loop, abort, changes, name, shown, How, reached, accepted, captured}
 use Rattle.ordered_search.specs.Setting.{Setting, branch_lengths}
 use Rattle.ordered_search.specs.Tests.{move_to}
-use Rattle.ordered_search.specs.Parts.{is_over, begun_at, back_to, forget_passed, some_set, is_called, is_called_of, is_active, block_of, skip_to}
-use Rattle.ordered_search.specs.Moves.{Moves, stops, pause, stepped, noted, Follow, Handler, Path, catching, going, holding, reaching}
+use Rattle.ordered_search.specs.Parts.{is_over, begun_at, back_to, forget_passed, some_set, is_called, is_called_of}
+use Rattle.ordered_search.specs.Parts.{is_active, block_of, skip_to}
+use Rattle.ordered_search.specs.Moves.{Moves, stops, pause, stepped, noted, Follow, Handler, Path, catching, going}
+use Rattle.ordered_search.specs.Moves.{holding, reaching}
 
 -- a path of each tree
 abbrev pub Paths : Type 0
@@ -237,7 +243,8 @@ module _ (g : Setting) where
   tested_path p then' else' s k f h =
       pause
       (holding g 1 s
-      (λ t. p t (λ how u e. leave s reached (back_to s u) (λ how v m. then' v k m h) f) (pause (else' s k f h)) (λ v. pause (else' s k f h))))
+      (λ t. p t (λ how u e. leave s reached (back_to s u) (λ how v m. then' v k m h) f) (pause (else' s k f h))
+      (λ v. pause (else' s k f h))))
 
   abbrev pub assert_path : Bool → Path → Path → Path → Path
   assert_path true p yes' no' = tested_path p yes' no'
@@ -260,7 +267,8 @@ module _ (g : Setting) where
         | false ↦
             holding g 1 s
             (λ t.
-            called_path (group_of g.whole n) below (record t { calls = (n, s.place) ∷ s.calls }) (returned s k) (pause f)
+            called_path (group_of g.whole n) below (record t { calls = (n, s.place) ∷ s.calls }) (returned s k)
+            (pause f)
             (λ v. pause f))
       ])
 
@@ -331,8 +339,10 @@ module _ (g : Setting) where
       test_path tree.in_call p p' s k f h = choose_path (is_called s.calls) p p' s k f h
       test_path (tree.in_call_of ns) p p' s k f h = choose_path (is_called_of s.calls ns) p p' s k f h
       test_path tree.never p p' s k f h = choose_path false p p' s k f h
-      test_path (tree.assert true positive once ts) p p' s k f h = assert_path positive (branch_paths (row_paths ts)) p p' s k f h
-      test_path (tree.assert false positive once ts) p p' s k f h = assert_path positive (branch_paths (behind_paths ts)) p p' s k f h
+      test_path (tree.assert true positive once ts) p p' s k f h =
+          assert_path positive (branch_paths (row_paths ts)) p p' s k f h
+      test_path (tree.assert false positive once ts) p p' s k f h =
+          assert_path positive (branch_paths (behind_paths ts)) p p' s k f h
       test_path (tree.called c test) p p' s k f h =
           pause (noted (shown (block_of c s)) (answered (g.reply (block_of c s)) (test_path test p p' s k f h) f))
 

@@ -1,8 +1,12 @@
 -- What a search answers at one start place.
-use Rattle.std.specs.Prelude.{ℕ, zero, suc, ◌+◌, Bool, true, false, ◌&&◌, ◌||◌, not, List, [], ◌∷◌, length, Option, Some, None, ℤ, ◌==◌, filter_map}
+use Rattle.std.specs.Prelude.{ℕ, zero, suc, ◌+◌, Bool, true, false, ◌&&◌, ◌||◌, not, List, [], ◌∷◌, length, Option}
+use Rattle.std.specs.Prelude.{Some, None, ℤ, ◌==◌, filter_map}
 use Rattle.std.specs.Option.{option_or}
 use Rattle.std.specs.List.{list_any}
-use Rattle.ordered_search.specs.Stream.{State, first_state, Block, VerbEnding, next_branch, prune, skip, commit, Halt, is_partial, too_many_units, loop, abort, cut, Ending, exhausted, by_verb, by_halt, Note, name, shown, hit_end, How, reached, accepted, note, state, step, Stream, ends, ◌▸◌}
+use Rattle.ordered_search.specs.Stream.{State, first_state, Block, VerbEnding, next_branch, prune, skip, commit}
+use Rattle.ordered_search.specs.Stream.{Halt, is_partial, too_many_units, loop, abort, cut, Ending, exhausted}
+use Rattle.ordered_search.specs.Stream.{by_verb, by_halt, Note, name, shown, hit_end, How, reached, accepted, note}
+use Rattle.ordered_search.specs.Stream.{state, step, Stream, ends, ◌▸◌}
 use Rattle.frame_store.specs.Captures.{Captures}
 use Rattle.ordered_search.specs.Setting.{Setting, endanchored, notempty, notempty_atstart, match_limit}
 use Rattle.ordered_search.specs.Run.{run}
@@ -95,7 +99,8 @@ module _ (g : Setting) where
   abbrev pub is_refused_as_empty : State → Bool
   is_refused_as_empty s = (s.keep == s.place) && (notempty g || notempty_atstart g && (s.keep == g.start))
 
-  -- what a state answers; none where it is passed over. One that was accepted and of which only the end is refused fails its place.
+  -- what a state answers; none where it is passed over. One that was accepted and of which only the end is refused
+  -- fails its place.
   abbrev pub decision : How → State → Option PlaceAnswer
   decision how s =
       elim (is_refused_as_empty s) [

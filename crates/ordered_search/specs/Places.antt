@@ -1,5 +1,6 @@
 -- The start places of a search, in order.
-use Rattle.std.specs.Prelude.{ℕ, ◌+◌, Bool, true, false, ◌&&◌, not, length, Option, Some, None, nat_lt, nat_le, slice_index}
+use Rattle.std.specs.Prelude.{ℕ, ◌+◌, Bool, true, false, ◌&&◌, not, length, Option, Some, None, nat_lt, nat_le}
+use Rattle.std.specs.Prelude.{slice_index}
 use Rattle.pat_tree.specs.declared.options.PartialMode.{PartialMode}
 use Rattle.pat_tree.specs.declared.options.PartialMode.TheVariants.{Off, Soft, Hard}
 use Rattle.byte_lanes.specs.declared.line_end.EndKind.TheVariants.{CrLf}
@@ -23,7 +24,8 @@ up_to last (Some p) = elim (nat_le p last) [ true ↦ Some p | false ↦ None ]
 module _ (g : Setting) where
   -- a CRLF is passed whole where it is a newline, unless the pattern names one half of it
   abbrev pub passes_crlf : ℕ → Bool
-  passes_crlf p = has_crlf (end_kind g.options.newline g.options.utf) && nat_lt 0 (newline_len CrLf g.subject p) && not (names_cr_or_lf g)
+  passes_crlf p = has_crlf (end_kind g.options.newline g.options.utf) && nat_lt 0 (newline_len CrLf g.subject p)
+      && not (names_cr_or_lf g)
 
   -- the place after another
   abbrev pub next_place : ℕ → Option ℕ
@@ -57,7 +59,11 @@ module _ (g : Setting) where
   -- no match begins there: the byte is not one that matches begin with
   abbrev pub is_outside : Option (ℕ → Bool) → ℕ → Bool
   is_outside None p = false
-  is_outside (Some has) p = elim (is_end g.scene p) [ true ↦ is_off g.matching.«partial» | false ↦ not (has (slice_index g.subject p)) ]
+  is_outside (Some has) p = elim (is_end g.scene p) [
+    | true ↦ is_off g.matching.«partial»
+    | false ↦
+        not (has (slice_index g.subject p))
+  ]
 
   abbrev pub is_excluded : ℕ → Bool
   is_excluded p = elim g.options.no_start_optimize [ true ↦ false | false ↦ is_outside (lead_set g) p ]

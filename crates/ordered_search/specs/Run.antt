@@ -5,7 +5,9 @@ use Rattle.pat_tree.specs.Nested.{Row, Test, Other}
 use Rattle.ordered_search.specs.Stream.{cut, by_halt, reached, Search, ends, gives}
 use Rattle.ordered_search.specs.Setting.{Setting, branch_lengths}
 use Rattle.ordered_search.specs.Tests.{run_one, run_break, run_many, run_ref, run_anchor}
-use Rattle.ordered_search.specs.Parts.{Searches, in_order, branches, run_group, run_behind, run_atomic, run_look, asserts, tests, some_set, is_called, is_called_of, run_callout, run_verb, run_repeat, run_call}
+use Rattle.ordered_search.specs.Parts.{Searches, in_order, branches, run_group, run_behind, run_atomic, run_look}
+use Rattle.ordered_search.specs.Parts.{asserts, tests, some_set, is_called, is_called_of, run_callout, run_verb}
+use Rattle.ordered_search.specs.Parts.{run_repeat, run_call}
 
 module _ (g : Setting) where
   module _ (below : Searches) where

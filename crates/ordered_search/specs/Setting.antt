@@ -1,5 +1,7 @@
--- What a search is about: the pattern, the subject, the options, the limits and the answers of callouts, which stay as they are.
-use Rattle.std.specs.Prelude.{ℕ, ◌+◌, Bool, true, false, ◌||◌, List, [], length, min, ℤ, Option, Some, None, nat_lt, nat_le, slice_get, slice_index_or}
+-- What a search is about: the pattern, the subject, the options, the limits and the answers of callouts, which stay as
+-- they are.
+use Rattle.std.specs.Prelude.{ℕ, ◌+◌, Bool, true, false, ◌||◌, List, [], length, min, ℤ, Option, Some, None, nat_lt}
+use Rattle.std.specs.Prelude.{nat_le, slice_get, slice_index_or}
 use Rattle.pat_tree.specs.declared.options.MatchOptions.{MatchOptions}
 use Rattle.pat_tree.specs.declared.options.PartialMode.TheVariants.{Off, Soft, Hard}
 use Rattle.pat_tree.specs.declared.nodes.ClassSpec.{ClassSpec}
@@ -12,7 +14,8 @@ use Rattle.pat_lengths.specs.Nodes as nodes
 use Rattle.pat_lengths.specs.Lengths as lengths
 use Rattle.pat_lengths.specs.Lengths.{SomeLengths}
 use Rattle.pat_check.specs.Lead as lead
-use Rattle.ordered_search.specs.Stream.{State, Block, hit_end, note, How, Stream, Search, ends, ◌▸◌, by_halt, too_many_units, is_partial, gives}
+use Rattle.ordered_search.specs.Stream.{State, Block, hit_end, note, How, Stream, Search, ends, ◌▸◌, by_halt}
+use Rattle.ordered_search.specs.Stream.{too_many_units, is_partial, gives}
 
 pub record Setting : Type 0 where
   -- the subject, the start, the options, and the tests of characters

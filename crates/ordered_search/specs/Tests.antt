@@ -1,8 +1,11 @@
 -- What one item, a reference or a simple assertion does at a state.
-use Rattle.std.specs.Prelude.{ℕ, ◌-◌, Bool, true, false, List, [], ◌∷◌, take, drop, reverse, Option, Some, None, option_map}
+use Rattle.std.specs.Prelude.{ℕ, ◌-◌, Bool, true, false, List, [], ◌∷◌, take, drop, reverse, Option, Some, None}
+use Rattle.std.specs.Prelude.{option_map}
 use Rattle.pat_tree.specs.declared.nodes.Item.{Item}
 use Rattle.pat_tree.specs.declared.nodes.AnchorKind.{AnchorKind}
-use Rattle.match_items.specs.Items.{one_less, is_none_left, after_item, item_reaches, longest_run, run_reaches, after_break, break_reaches, after_ref, ref_reaches, holds, anchor_reaches, earliest}
+use Rattle.match_items.specs.Items.{one_less, is_none_left, after_item, item_reaches, longest_run, run_reaches}
+use Rattle.match_items.specs.Items.{after_break, break_reaches, after_ref, ref_reaches, holds, anchor_reaches}
+use Rattle.match_items.specs.Items.{earliest}
 use Rattle.ordered_search.specs.Stream.{State, step, reached, Stream, Search, ◌▸◌, nothing, gives, ◌or_else◌}
 use Rattle.frame_store.specs.Captures.{capture}
 use Rattle.ordered_search.specs.Setting.{Setting, hold, reach_if}
@@ -30,7 +33,8 @@ module _ (g : Setting) where
   run_ref (n ∷ ns) caseless s =
       elim (capture s.caps n) [
         | None ↦ run_ref ns caseless s
-        | Some span ↦ reach_if g (ref_reaches g.scene span.from span.to caseless s.place) s (goes_to (after_ref g.scene span.from span.to caseless s.place) s)
+        | Some span ↦ reach_if g (ref_reaches g.scene span.from span.to caseless s.place) s
+            (goes_to (after_ref g.scene span.from span.to caseless s.place) s)
       ]
 
   unfoldable pub run_anchor : AnchorKind → Search

@@ -1,5 +1,6 @@
 -- How patterns and searches are written in the worked rows.
-use Rattle.std.specs.Prelude.{ℕ, ◌+◌, Bool, true, false, ◌&&◌, ◌||◌, not, cond, List, [], ◌∷◌, map, codes, Option, Some, None, ℤ, pos, ◌==◌, nat_le, slice_get}
+use Rattle.std.specs.Prelude.{ℕ, ◌+◌, Bool, true, false, ◌&&◌, ◌||◌, not, cond, List, [], ◌∷◌, map, codes, Option}
+use Rattle.std.specs.Prelude.{Some, None, ℤ, pos, ◌==◌, nat_le, slice_get}
 use Prim.Native.String.{String}
 use Rattle.std.specs.List.{list_any}
 use Rattle.pat_tree.specs.declared.options.Options.{Options}
@@ -55,7 +56,8 @@ in_part c (Set set outside ucp) = false
 abbrev pub in_class : Option ClassSpec → ℕ → Bool
 in_class None c = false
 in_class (Some class) c =
-    let inside : Bool = list_any (in_part c) class.parts || class.caseless && list_any (in_part (kelvin_fold c)) class.parts in
+    let inside : Bool = list_any (in_part c) class.parts || class.caseless && list_any (in_part (kelvin_fold c))
+    class.parts in
     cond class.negated (not inside) inside
 
 abbrev pub class_of : List Part → ClassSpec

@@ -26,9 +26,9 @@ pub fn no_partial_match()
     ensures { NoPartialLaw }
 {}
 
-/// A search, in UTF or outside it: a match lies in the subject at the start or past it, with its captures, and a partial match
-/// begins there; else there is none, a limit is passed, a group is called at the place of an active call of it, or a callout
-/// ends the search.
+/// A search, in UTF or outside it: a match lies in the subject at the start or past it, with its captures, and a
+/// partial match begins there; else there is none, a limit is passed, a group is called at the place of an active call
+/// of it, or a callout ends the search.
 pub fn searches_go_forward()
     ensures { ForwardLaw }
 {}

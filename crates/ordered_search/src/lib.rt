@@ -1,5 +1,6 @@
-//! What a search for a pattern means, with its laws: the ordered search of a tree at one start place, and over all start
-//! places (pcre2matching, "The standard matching algorithm"). No call here searches: a matcher proves that it answers so.
+//! What a search for a pattern means, with its laws: the ordered search of a tree at one start place, and over all
+//! start places (pcre2matching, "The standard matching algorithm"). No call here searches: a matcher proves that it
+//! answers so.
 #![tactic(auto)]
 
 mod laws;

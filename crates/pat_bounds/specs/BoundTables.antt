@@ -4,7 +4,8 @@ use Rattle.pat_tree.specs.Nested.{Nested, row, tree_at, trees}
 use Rattle.pat_tree.specs.Parts.{TreeParts}
 use Rattle.char_sets.specs.Sets.{class_has}
 use Rattle.pat_bounds.specs.declared.bounds.Bound.{Bound}
-use Rattle.pat_bounds.specs.Bounds.{first_item, is_alone, bound, bound_before, bound_in_turn, bound_of_one, bound_of_choices}
+use Rattle.pat_bounds.specs.Bounds.{first_item, is_alone, bound, bound_before, bound_in_turn, bound_of_one}
+use Rattle.pat_bounds.specs.Bounds.{bound_of_choices}
 
 -- what is told is what is meant
 abbrev pub Refines : {A : Type 0} → Option A → Option A → Type 0

@@ -1,9 +1,11 @@
--- How many Steps and states a search of a part of a pattern gives at most, and how many units its paths hold beside those
--- that they began with (docs/SPEED.md, "A text that every match needs").
-use Rattle.std.specs.Prelude.{ℕ, ◌+◌, ◌-◌, ◌*◌, ◌^◌, ◌==◌, ◌&&◌, ◌||◌, nat_le, nat_lt, not, max, Bool, true, false, if◌then◌else◌, Option, Some, None}
+-- How many Steps and states a search of a part of a pattern gives at most, and how many units its paths hold beside
+-- those that they began with (docs/SPEED.md, "A text that every match needs").
+use Rattle.std.specs.Prelude.{ℕ, ◌+◌, ◌-◌, ◌*◌, ◌^◌, ◌==◌, ◌&&◌, ◌||◌, nat_le, nat_lt, not, max, Bool, true, false}
+use Rattle.std.specs.Prelude.{if◌then◌else◌, Option, Some, None}
 use Rattle.pat_tree.specs.declared.nodes.Item.{Item}
 use Rattle.pat_tree.specs.declared.nodes.Item.TheVariants.{Char, Class}
-use Rattle.pat_tree.specs.Nested.{Nested, Row, empty, one, line_break, seq, group, repeat, one_repeat, atomic, look, condition, call, ref, anchor, keep_out, verb, callout, none, more}
+use Rattle.pat_tree.specs.Nested.{Nested, Row, empty, one, line_break, seq, group, repeat, one_repeat, atomic, look}
+use Rattle.pat_tree.specs.Nested.{condition, call, ref, anchor, keep_out, verb, callout, none, more}
 use Rattle.pat_bounds.specs.declared.bounds.Growth.{Growth}
 use Rattle.pat_bounds.specs.declared.bounds.Bound.{Bound}
 

@@ -1,5 +1,6 @@
 // How many Steps, states and units a search of a part of a pattern takes at most.
-ghost use Rattle.std.specs.Prelude.{◌≡◌, ◌+◌, ◌<◌, ◌≤◌, ◌&&◌, if◌then◌else◌, None, Some, All, List, IfOk, IfSome, IsTrue, length};
+ghost use Rattle.std.specs.Prelude.{◌≡◌, ◌+◌, ◌<◌, ◌≤◌, ◌&&◌, if◌then◌else◌, None, Some, All, List, IfOk, IfSome};
+ghost use Rattle.std.specs.Prelude.{IsTrue, length};
 ghost use Rattle.pat_tree.specs.Nested.{Nested, Row, more, tree_at, trees, nest};
 ghost use Rattle.pat_tree.specs.Parts.{TreeParts};
 ghost use Rattle.pat_tree.specs.Rules.{class_in, kids_of};
@@ -7,7 +8,8 @@ ghost use Rattle.char_sets.specs.Sets.{class_has};
 ghost use Rattle.char_sets.specs.Table.{IsTableOf};
 ghost use Rattle.pat_bounds.specs.Bounds as spec;
 ghost use Rattle.pat_bounds.specs.Bounds.{at, both, change, repeated};
-ghost use Rattle.pat_bounds.specs.BoundTables.{Refines, KeepBounds, RefinesTurn, RefinesOne, RefinesChoices, IsBefore, is_alone_of};
+ghost use Rattle.pat_bounds.specs.BoundTables.{Refines, KeepBounds, RefinesTurn, RefinesOne, RefinesChoices};
+ghost use Rattle.pat_bounds.specs.BoundTables.{IsBefore, is_alone_of};
 
 use char_sets::ClassTable;
 use pat_tree::{Item, Memory, Node, NodeId, Tree};
@@ -68,8 +70,8 @@ impl Growth {
     }
 }
 
-/// How many Steps and states a search of a part of a pattern gives at most, and how many units its paths hold beside those
-/// that they began with.
+/// How many Steps and states a search of a part of a pattern gives at most, and how many units its paths hold beside
+/// those that they began with.
 #[derive(Clone, Copy, Debug, PartialEq, Eq)]
 pub struct Bound {
     pub steps: Growth,

@@ -1,5 +1,5 @@
-//! How many Steps a search for a pattern takes at most, and how many units it holds (docs/SPEED.md, "A text that every match
-//! needs").
+//! How many Steps a search for a pattern takes at most, and how many units it holds (docs/SPEED.md, "A text that every
+//! match needs").
 #![tactic(auto)]
 
 mod bounds;

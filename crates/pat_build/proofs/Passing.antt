@@ -10,9 +10,13 @@ abbrev given : State → Option State → State
 given st None = st
 given st (Some beyond) = beyond
 
-pub passed_begins : (known : Known) (text : List ℕ) (n : ℕ) (st : State) (found : Token) (before beyond : State) → passed_over found before ≡ Some beyond →
+pub passed_begins : (known : Known) (text : List ℕ) (n : ℕ) (st : State) (found : Token) (before beyond : State)
+    → passed_over found before ≡ Some beyond →
     beginning known text n st found before ≡ Ok (nothing beyond)
-passed_begins known text n st Passed before beyond over = ap (λ o. let x : Result Beginning Fault = Ok (nothing (given before o)) in x) over
-passed_begins known text n st QuoteOn before beyond over = ap (λ o. let x : Result Beginning Fault = Ok (nothing (given (record before { quoting = true }) o)) in x) over
-passed_begins known text n st QuoteOff before beyond over = ap (λ o. let x : Result Beginning Fault = Ok (nothing (given (record before { quoting = false }) o)) in x) over
+passed_begins known text n st Passed before beyond over =
+    ap (λ o. let x : Result Beginning Fault = Ok (nothing (given before o)) in x) over
+passed_begins known text n st QuoteOn before beyond over =
+    ap (λ o. let x : Result Beginning Fault = Ok (nothing (given (record before { quoting = true }) o)) in x) over
+passed_begins known text n st QuoteOff before beyond over =
+    ap (λ o. let x : Result Beginning Fault = Ok (nothing (given (record before { quoting = false }) o)) in x) over
 passed_begins known text n st _ before beyond over = cc

@@ -34,7 +34,8 @@ pub record Innermost (ps : List Placed) (u : ℕ) (f : Frame) (fs : List Frame) 
   pub frame : FrameStands ps u f o
   pub stack : StackStands ps u fs os
 
-pub innermost : (ps : List Placed) (u : ℕ) (f : Frame) (fs : List Frame) (opens : List Opened) → StackStands ps u (f ∷ fs) opens → Innermost ps u f fs opens
+pub innermost : (ps : List Placed) (u : ℕ) (f : Frame) (fs : List Frame) (opens : List Opened)
+    → StackStands ps u (f ∷ fs) opens → Innermost ps u f fs opens
 innermost ps u f fs [] s = absurd s
 innermost ps u f fs (o ∷ os) s = record { o = o; os = os; is = refl; frame = s.0; stack = s.1 }
 

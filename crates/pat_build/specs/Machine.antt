@@ -1,6 +1,7 @@
 -- What the reader's state stands for: the rest of the reading.
 use Rattle.std.specs.List.{list_any}
-use Rattle.std.specs.Prelude.{true, false, ◌||◌, max, ◌≡◌, ℕ, ◌+◌, ◌-◌, ◌*◌, ◌<◌, ◌≤◌, Bool, List, [], ◌∷◌, ◌++◌, length, reverse, Option, Some, None, Result, Ok, All}
+use Rattle.std.specs.Prelude.{true, false, ◌||◌, max, ◌≡◌, ℕ, ◌+◌, ◌-◌, ◌*◌, ◌<◌, ◌≤◌, Bool, List, [], ◌∷◌, ◌++◌}
+use Rattle.std.specs.Prelude.{length, reverse, Option, Some, None, Result, Ok, All}
 use Rattle.pat_tree.specs.declared.nodes.Placed.{Placed}
 use Rattle.pat_tree.specs.declared.names.NameEntry.{NameEntry}
 use Rattle.pat_tree.specs.Nested.{Nested, none, look, callout, tree_at, trees}
@@ -10,7 +11,9 @@ use Rattle.pat_tree.specs.Growing.{Stand, loose}
 use Rattle.pat_tree.specs.Closing.{StandInTurn}
 use Rattle.token_parts.specs.declared.fault.Fault.{Fault}
 use Rattle.token_parts.specs.declared.token.Token.{Token}
-use Rattle.token_parts.specs.declared.token.Token.TheVariants.{End, Literal, Dot, NotNewline, LineBreak, Caret, Dollar, SubjectStart, SubjectEnd, EndOrNewline, StartGiven, Boundary}
+use Rattle.token_parts.specs.declared.token.Token.TheVariants.{End, Literal, Dot, NotNewline, LineBreak, Caret}
+use Rattle.token_parts.specs.declared.token.Token.TheVariants.{Dollar, SubjectStart, SubjectEnd, EndOrNewline}
+use Rattle.token_parts.specs.declared.token.Token.TheVariants.{StartGiven, Boundary}
 use Rattle.token_parts.specs.declared.token.Token.TheVariants as token
 use Rattle.token_parts.specs.Tell.{IsWell, ◌>>=◌}
 use Rattle.pat_lex.specs.Tokens.{token_at}
@@ -26,7 +29,9 @@ use Rattle.pat_grammar.specs.declared.alternatives.Numbering.TheVariants.{Onward
 use Rattle.pat_nodes.specs.declared.frames.Inside.{Inside}
 use Rattle.pat_build.specs.declared.machine.Machine.{Machine}
 use Rattle.pat_grammar.specs.State.{State, Known, Reads, flags_of}
-use Rattle.pat_grammar.specs.Groups.{Opening, Form, grouped, atomically, looks, conditional, defines, asserted, asserting, is_look, is_tested, bars_in, number_of, is_opened, places_named, missing}
+use Rattle.pat_grammar.specs.Groups.{Opening, Form, grouped, atomically, looks, conditional, defines, asserted}
+use Rattle.pat_grammar.specs.Groups.{asserting, is_look, is_tested, bars_in, number_of, is_opened, places_named}
+use Rattle.pat_grammar.specs.Groups.{missing}
 use Rattle.pat_nodes.specs.Names.{Stands, with_given}
 use Rattle.pat_grammar.specs.declared.cursor.Assertion.{Assertion}
 use Rattle.pat_grammar.specs.Callouts.{automatic}
@@ -49,7 +54,14 @@ ids_held [] = []
 ids_held (f ∷ fs) = ids_in f.outer ++ ids_held fs
 
 abbrev pub opening_of : Frame → Opening
-opening_of f = record { form = form_of f.form; around = f.around; looking = f.looking; bars = f.bars; numbering = f.numbering; at = f.at }
+opening_of f = record {
+  form = form_of f.form;
+  around = f.around;
+  looking = f.looking;
+  bars = f.bars;
+  numbering = f.numbering;
+  at = f.at;
+}
 
 -- the number of the group, where it captures
 abbrev pub number_in_frame : Frame → Option ℕ
@@ -75,7 +87,8 @@ StackStands ps left (f ∷ fs) (o ∷ os) = FrameStands ps left f o × StackStan
 
 abbrev pub AtomStands : DraftParts → ℕ → Option Atom → Waiting → Type 0
 AtomStands d left None waiting = waiting ≡ None
-AtomStands d left (Some atom) waiting = IsAtom d atom × ((n : ℕ) × (left < n) × (waiting ≡ Some (n, atom_tree d.nodes atom)))
+AtomStands d left (Some atom) waiting =
+    IsAtom d atom × ((n : ℕ) × (left < n) × (waiting ≡ Some (n, atom_tree d.nodes atom)))
 
 abbrev pub is_open : List Frame → ℕ → Bool
 is_open fs n = list_any (λ f. is_number (number_in_frame f) n) fs
@@ -218,9 +231,23 @@ inside_from m form given start = inside
 -- what begins where a conditional group tests a lookaround
 abbrev pub asserting_from : Machine → Assertion → Beginning
 asserting_from m test = asserts
-    (record { form = asserting; around = m.options; looking = m.looking; bars = m.bars; numbering = m.numbering; at = m.at })
+    (record {
+      form = asserting;
+      around = m.options;
+      looking = m.looking;
+      bars = m.bars;
+      numbering = m.numbering;
+      at = m.at;
+    })
     (lead_of test.lead)
-    (record { form = asserted test.ahead test.positive; around = m.options; looking = m.looking; bars = barring.First; numbering = Onward; at = test.here.at })
+    (record {
+      form = asserted test.ahead test.positive;
+      around = m.options;
+      looking = m.looking;
+      bars = barring.First;
+      numbering = Onward;
+      at = test.here.at;
+    })
     (record (state_of m) {
       at = test.after.at;
       quoting = test.after.quoting;
@@ -251,7 +278,8 @@ whole_of m = reading (known_of m) m.text.now (state_from m.start m.draft.options
 
 -- what a pattern is read as, by the names of the whole pattern, from the place after the start items on
 abbrev pub tree_with : Known → List ℕ → State → Result Parsed Fault
-tree_with known text st = reading known text st >>= λ (tree, last). checked st.options last.beyond (missing last.groups last.references) tree last
+tree_with known text st = reading known text st >>= λ (tree, last). checked st.options last.beyond
+    (missing last.groups last.references) tree last
 
 -- twice the bytes that are left
 abbrev pub left_at : List ℕ → ℕ → ℕ
@@ -309,7 +337,8 @@ pub record Ready (token : Token) (after : ℕ) (m : Machine) : Type 0 where
 -- what begins at a token, where the number that bounds the items of a class is enough for the bytes that are left
 abbrev pub Begins : Machine → Token → ℕ → Result Beginning Fault → Type 0
 Begins m token after what =
-    (n : ℕ) → left_at m.text.now after + 1 < n → beginning (known_of m) m.text.now n (state_of m) token (record (state_of m) { at = after }) ≡ what
+    (n : ℕ) → left_at m.text.now after + 1 < n → beginning (known_of m) m.text.now n (state_of m) token
+    (record (state_of m) { at = after }) ≡ what
 
 -- the same reading is done
 pub record Same (old new : Machine) : Type 0 where

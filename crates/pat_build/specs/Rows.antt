@@ -53,7 +53,8 @@ abbrev pub mixed_class : ClassSpec
 mixed_class = record {
   negated = true;
   caseless = false;
-  parts = single (byte "]") ∷ single (byte "-") ∷ Range (byte "a") (byte "c") ∷ Set Digit false false ∷ single (byte "-") ∷ [];
+  parts = single (byte "]") ∷ single (byte "-") ∷ Range (byte "a") (byte "c") ∷ Set Digit false false ∷ single
+      (byte "-") ∷ [];
 }
 
 abbrev pub possessive : Nested
@@ -85,7 +86,10 @@ two_named = record (with (λ p. record p { groups = 2 })
 -- a branch reset, and a reference to the group after it
 abbrev pub some_numbers : Parsed
 some_numbers = record (with (λ p. record p { groups = 3 })
-    (branches (seq (row (group None (row (group_of 1 (letter "a") ∷ seq (row (group_of 1 (letter "b") ∷ group_of 2 (letter "c") ∷ [])) ∷ [])) ∷ group_of 3 (letter "d") ∷ ref (3 ∷ []) false ∷ [])) ∷ []))) {
+    (branches (seq
+    (row (group None
+    (row (group_of 1 (letter "a") ∷ seq (row (group_of 1 (letter "b") ∷ group_of 2 (letter "c") ∷ []))
+    ∷ [])) ∷ group_of 3 (letter "d") ∷ ref (3 ∷ []) false ∷ [])) ∷ []))) {
       places = 17 ∷ [];
     }
 
@@ -112,11 +116,13 @@ pub record WorkedRows : Type 0 where
   pub other_name : reads "(?|(?<n>a)|(?<m>b))" ≡ fault 165 11
   pub renumbered : reads "(?|(a)|(b)(c))(d)\\3" ≡ Ok some_numbers
   pub keeping_out : reads "(?=a(b\\K))" ≡ fault 199 6
-  pub held : reads "(?>a|)b++" ≡ Ok (branches (seq (row (atomic (row (letter "a" ∷ empty ∷ [])) ∷ possessive ∷ [])) ∷ []))
+  pub held : reads "(?>a|)b++" ≡ Ok
+      (branches (seq (row (atomic (row (letter "a" ∷ empty ∷ [])) ∷ possessive ∷ [])) ∷ []))
   pub looking : reads "(?U)(*nla:a)+" ≡ Ok (with_places (4 ∷ []) (branches (repeat denial 1 (Some 2) true ∷ [])))
   pub no_minimum : reads "a{ ,2}" ≡ Ok (branches (one_repeat (Char (byte "a") false) 0 (Some 2) false ∷ []))
   pub no_number : reads "a{,}" ≡ Ok (branches (seq (row (letter "a" ∷ letter "{" ∷ letter "," ∷ letter "}" ∷ [])) ∷ []))
-  pub class : reads "[^]\\Q-\\Ea-c\\d-]" ≡ Ok (with (λ p. record p { classes = mixed_class ∷ [] }) (branches (one (Class 0) ∷ [])))
+  pub class : reads "[^]\\Q-\\Ea-c\\d-]" ≡ Ok
+      (with (λ p. record p { classes = mixed_class ∷ [] }) (branches (one (Class 0) ∷ [])))
   pub cases : reads "(?i)a|(?-i:b|c)d{2,}?|" ≡ Ok some_cases
   pub later_names : reads "(?J)\\k<n>(?<n>a)(?<n>b)" ≡ Ok two_named
   pub verbs : reads "a(*:m)(*ACCEPT:)??|(*F:n)" ≡ Ok some_verbs

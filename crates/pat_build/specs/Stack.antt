@@ -9,8 +9,8 @@ use Rattle.pat_grammar.specs.Groups.{Opening, is_tested}
 use Rattle.pat_grammar.specs.Parts.{alternative}
 use Rattle.pat_grammar.specs.Reading.{quantified, closed, alternatives_from, sequence, alternatives, whole}
 
--- a group whose inside is being read: its alternatives and the parts of the one in progress, and the numbers that bound the
--- sequence that goes on and the alternatives after it
+-- a group whose inside is being read: its alternatives and the parts of the one in progress, and the numbers that bound
+-- the sequence that goes on and the alternatives after it
 pub record Layer : Type 0 where
   pub n : ℕ
   pub k : ℕ
@@ -45,7 +45,8 @@ module _ (known : Known) (text : List ℕ) where
   -- A group is a part under the quantifier that may follow it. A lookaround that is tested is an alternative.
   unfoldable pub given : (List Nested → State → Reads Nested) → Bool → Layer → Nested → State → Reads Nested
   given then true layer found st = resumed then (with_test layer found) st
-  given then false layer found st = quantified text layer.n found st >>= λ (part, end). resumed then (with_part layer part) end
+  given then false layer found st = quantified text layer.n found st >>= λ (part, end). resumed then
+      (with_part layer part) end
 
   -- the innermost group ends, and the groups around it go on
   unfoldable pub ended : List Opened → List Nested → State → Reads Nested
@@ -56,7 +57,8 @@ module _ (known : Known) (text : List ℕ) where
 
   unfoldable pub resume : List Opened → Layer → Waiting → State → Reads Nested
   resume os layer None st = resumed (ended os) layer st
-  resume os layer (Some (n, t)) st = quantified text n t st >>= λ (part, end). resumed (ended os) (with_part layer part) end
+  resume os layer (Some (n, t)) st = quantified text n t st >>= λ (part, end). resumed (ended os)
+      (with_part layer part) end
 
 -- a token that is no quantifier and isn't passed over
 abbrev pub IsPlain : Token → Type 0

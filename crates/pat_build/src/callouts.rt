@@ -7,7 +7,8 @@ ghost use Rattle.pat_grammar.specs.State.{flags_of};
 ghost use Rattle.pat_grammar.specs.Callouts.{is_due, is_called, next_item};
 ghost use Rattle.pat_grammar.specs.Parts.{with_callout};
 ghost use Rattle.pat_build.specs.Stack.{IsPlain};
-ghost use Rattle.pat_build.specs.Machine.{Means, Ready, Begins, Took, Same, HasRoom, IsNext, IsQuiet, state_of, whole_of};
+ghost use Rattle.pat_build.specs.Machine.{Means, Ready, Begins, Took, Same, HasRoom, IsNext, IsQuiet, state_of};
+ghost use Rattle.pat_build.specs.Machine.{whole_of};
 ghost use Rattle.pat_grammar.specs.Places.{Refuses};
 
 use crate::machine::Machine;

@@ -1,5 +1,6 @@
 //! What each token does.
-ghost use Rattle.std.specs.Prelude.{◌≡◌, ℕ, ◌+◌, ◌<◌, ◌≤◌, [], length, IfOk, IfSome, OnOk, IfErr, None, Some, Ok, false};
+ghost use Rattle.std.specs.Prelude.{◌≡◌, ℕ, ◌+◌, ◌<◌, ◌≤◌, [], length, IfOk, IfSome, OnOk, IfErr, None, Some, Ok};
+ghost use Rattle.std.specs.Prelude.{false};
 ghost use Rattle.pat_tree.specs.Nested.{one, line_break, anchor};
 ghost use Rattle.pat_tree.specs.Rules.{class_in};
 ghost use Rattle.token_parts.specs.declared.token.Token.{Token};
@@ -10,7 +11,8 @@ ghost use Rattle.pat_grammar.specs.Groups.{number_of, barred};
 ghost use Rattle.pat_grammar.specs.Parts.{atom, bare, nothing, of_class, with_reference};
 ghost use Rattle.pat_grammar.specs.Leads.{IsWithin};
 ghost use Rattle.pat_build.specs.Stack.{IsPlain};
-ghost use Rattle.pat_build.specs.Machine.{Means, Ready, IsNext, Begins, Took, Same, HasRoom, TestsNone, Numbered, Gives, inside_from, asserting_from, tested_frame, state_of, whole_of};
+ghost use Rattle.pat_build.specs.Machine.{Means, Ready, IsNext, Begins, Took, Same, HasRoom, TestsNone, Numbered};
+ghost use Rattle.pat_build.specs.Machine.{Gives, inside_from, asserting_from, tested_frame, state_of, whole_of};
 ghost use Rattle.pat_grammar.specs.Places.{Refuses};
 ghost use Rattle.pat_nodes.specs.Nodes.{form_of};
 

@@ -1,5 +1,6 @@
 //! What begins a group, and what refers to one.
-ghost use Rattle.std.specs.Prelude.{◌≡◌, ◌<◌, not, ◌&&◌, [], ◌∷◌, length, slice_range, false, IfOk, OnOk, IfErr, None, Ok};
+ghost use Rattle.std.specs.Prelude.{◌≡◌, ◌<◌, not, ◌&&◌, [], ◌∷◌, length, slice_range, false, IfOk, OnOk, IfErr};
+ghost use Rattle.std.specs.Prelude.{None, Ok};
 ghost use Rattle.token_parts.specs.declared.token.Token.{Token};
 ghost use Rattle.token_parts.specs.declared.token.Token.TheVariants.{Open, CondStart, Reference};
 ghost use Rattle.token_parts.specs.declared.token.OpenKind.TheVariants as opening;
@@ -7,7 +8,8 @@ ghost use Rattle.token_parts.specs.declared.token.CondText.TheVariants as tested
 ghost use Rattle.token_parts.specs.Tell.{IsTarget, IsPart, IsTest};
 ghost use Rattle.pat_tree.specs.Nested.{in_call_of};
 ghost use Rattle.std.specs.List.{list_any};
-ghost use Rattle.pat_grammar.specs.Groups.{has_name, is_elsewhere, number_of, opened, conditional, unless_named, called_number, IsWorded, form_in, is_beyond, beyond_after, named_by};
+ghost use Rattle.pat_grammar.specs.Groups.{has_name, is_elsewhere, number_of, opened, conditional, unless_named};
+ghost use Rattle.pat_grammar.specs.Groups.{called_number, IsWorded, form_in, is_beyond, beyond_after, named_by};
 ghost use Rattle.pat_grammar.specs.Parts.{enters};
 ghost use Rattle.pat_build.specs.Machine.{Ready, Begins, Took, TestsNone, state_of, whole_of, known_of};
 ghost use Rattle.pat_grammar.specs.Places.{Refuses};

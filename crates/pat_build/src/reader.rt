@@ -1,5 +1,6 @@
 //! The reader of a pattern.
-ghost use Rattle.std.specs.Prelude.{◌≡◌, ◌&&◌, not, ℕ, pos, negsuc, ◌<◌, ◌≤◌, false, true, List, [], All, length, Some, None, Ok, OnOk, IfOk, IfErr};
+ghost use Rattle.std.specs.Prelude.{◌≡◌, ◌&&◌, not, ℕ, pos, negsuc, ◌<◌, ◌≤◌, false, true, List, [], All, length};
+ghost use Rattle.std.specs.Prelude.{Some, None, Ok, OnOk, IfOk, IfErr};
 ghost use Rattle.std.specs.Str.{is_utf8};
 ghost use Rattle.std.specs.Str.Lossy.{utf8_valid_len};
 ghost use Rattle.pat_tree.specs.Nested.{tree_at, trees};

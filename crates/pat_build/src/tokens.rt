@@ -3,7 +3,8 @@ ghost use Rattle.std.specs.Prelude.{◌≡◌, OnOk, IfErr, Some};
 ghost use Rattle.token_parts.specs.declared.token.Token.TheVariants as token;
 ghost use Rattle.pat_grammar.specs.State.{passed_over};
 ghost use Rattle.pat_build.specs.Stack.{IsPlain};
-ghost use Rattle.pat_build.specs.Machine.{Means, Ready, IsNext, IsMore, IsAssertion, IsCharacter, Took, HasRoom, state_of, whole_of};
+ghost use Rattle.pat_build.specs.Machine.{Means, Ready, IsNext, IsMore, IsAssertion, IsCharacter, Took, HasRoom};
+ghost use Rattle.pat_build.specs.Machine.{state_of, whole_of};
 ghost use Rattle.pat_grammar.specs.Places.{Refuses};
 
 use crate::machine::Machine;

@@ -1,5 +1,6 @@
 -- First bytes of characters, and their folding to ASCII.
-use Rattle.std.proofs.Common.{◌≡◌, ◌⊎◌, inl, inr, ℕ, ◌+◌, ◌/◌, ◌%◌, ◌<◌, ◌≤◌, ◌||◌, ◌==◌, nat_lt, Bool, true, false, cond, [], ◌∷◌, refl, arith}
+use Rattle.std.proofs.Common.{◌≡◌, ◌⊎◌, inl, inr, ℕ, ◌+◌, ◌/◌, ◌%◌, ◌<◌, ◌≤◌, ◌||◌, ◌==◌, nat_lt, Bool, true, false}
+use Rattle.std.proofs.Common.{cond, [], ◌∷◌, refl, arith}
 use Rattle.std.specs.Char.{encode_utf8}
 use Rattle.std.specs.Int.{is_in_range}
 use Rattle.std.proofs.Math.Bool.{or-true}
@@ -21,30 +22,37 @@ lead_by low high one two three c b =
       | false ↦ []
     ])
 
-lead_is : (c b : ℕ) → lead_by (nat_lt c 0xD800) (is_in_range 0xE000 0x10_FFFF c) (nat_lt c 128) (nat_lt c 2048) (nat_lt c 65536) c b ≡ char_lead true c b
+lead_is : (c b : ℕ) → lead_by (nat_lt c 0xD800) (is_in_range 0xE000 0x10_FFFF c) (nat_lt c 128) (nat_lt c 2048)
+    (nat_lt c 65536) c b ≡ char_lead true c b
 unfolding lead_by encode_utf8
 lead_is c b = refl
 
-at_tests : (low high one two three : Bool) (c b : ℕ) → nat_lt c 0xD800 ≡ low → is_in_range 0xE000 0x10_FFFF c ≡ high → nat_lt c 128 ≡ one → nat_lt c 2048 ≡ two → nat_lt c 65536 ≡ three →
+at_tests : (low high one two three : Bool) (c b : ℕ) → nat_lt c 0xD800 ≡ low → is_in_range 0xE000 0x10_FFFF c ≡ high
+    → nat_lt c 128 ≡ one → nat_lt c 2048 ≡ two → nat_lt c 65536 ≡ three →
     lead_by low high one two three c b ≡ char_lead true c b
 at_tests low high one two three c b h i j k l = rw (← h, ← i, ← j, ← k, ← l) (lead_is c b)
 
 pub two_lead : (c b : ℕ) → 128 ≤ c → c < 2048 → (192 + c / 64 == b) ≡ char_lead true c b
 unfolding lead_by
 two_lead c b l m =
-    at_tests true (is_in_range 0xE000 0x10_FFFF c) false true (nat_lt c 65536) c b (grind (arith, nat_tests)) refl (grind (arith, nat_tests)) (grind (arith, nat_tests)) refl
+    at_tests true (is_in_range 0xE000 0x10_FFFF c) false true (nat_lt c 65536) c b (grind (arith, nat_tests)) refl
+    (grind (arith, nat_tests)) (grind (arith, nat_tests)) refl
 
-pub three_lead : (c b : ℕ) → 2048 ≤ c → (c < 0xD800) ⊎ (0xE000 ≤ c) → c < 65536 → (224 + c / 4096 == b) ≡ char_lead true c b
+pub three_lead : (c b : ℕ) → 2048 ≤ c → (c < 0xD800) ⊎ (0xE000 ≤ c) → c < 65536
+    → (224 + c / 4096 == b) ≡ char_lead true c b
 unfolding lead_by
 three_lead c b l (inl m) k =
-    at_tests true (is_in_range 0xE000 0x10_FFFF c) false false true c b (grind (arith, nat_tests)) refl (grind (arith, nat_tests)) (grind (arith, nat_tests)) (grind (arith, nat_tests))
+    at_tests true (is_in_range 0xE000 0x10_FFFF c) false false true c b (grind (arith, nat_tests)) refl
+    (grind (arith, nat_tests)) (grind (arith, nat_tests)) (grind (arith, nat_tests))
 three_lead c b l (inr m) k =
-    at_tests false true false false true c b (grind (arith, nat_tests)) (grind (arith, nat_tests)) (grind (arith, nat_tests)) (grind (arith, nat_tests)) (grind (arith, nat_tests))
+    at_tests false true false false true c b (grind (arith, nat_tests)) (grind (arith, nat_tests))
+    (grind (arith, nat_tests)) (grind (arith, nat_tests)) (grind (arith, nat_tests))
 
 pub four_lead : (c b : ℕ) → 65536 ≤ c → c ≤ 0x10_FFFF → (240 + c / 262144 == b) ≡ char_lead true c b
 unfolding lead_by
 four_lead c b l m =
-    at_tests false true false false false c b (grind (arith, nat_tests)) (grind (arith, nat_tests)) (grind (arith, nat_tests)) (grind (arith, nat_tests)) (grind (arith, nat_tests))
+    at_tests false true false false false c b (grind (arith, nat_tests)) (grind (arith, nat_tests))
+    (grind (arith, nat_tests)) (grind (arith, nat_tests)) (grind (arith, nat_tests))
 
 -- `\R` in UTF
 

@@ -1,10 +1,14 @@
--- The bytes that a match can begin with, as the start optimisations use them (pcre2api, "Option bits for pcre2_compile()", PCRE2_NO_START_OPTIMIZE).
-use Rattle.std.specs.Prelude.{ℕ, zero, Bool, true, false, ◌||◌, ◌&&◌, ◌==◌, nat_lt, nat_le, List, [], ◌∷◌, Option, Some, None, encode_utf8}
+-- The bytes that a match can begin with, as the start optimisations use them (pcre2api, "Option bits for
+-- pcre2_compile()", PCRE2_NO_START_OPTIMIZE).
+use Rattle.std.specs.Prelude.{ℕ, zero, Bool, true, false, ◌||◌, ◌&&◌, ◌==◌, nat_lt, nat_le, List, [], ◌∷◌, Option}
+use Rattle.std.specs.Prelude.{Some, None, encode_utf8}
 use Rattle.std.specs.List.{list_any}
 use Rattle.std.specs.Int.{is_in_range}
 use Rattle.pat_tree.specs.declared.nodes.Item.{Item}
 use Rattle.pat_tree.specs.declared.nodes.Item.TheVariants.{Char, AnyAll, NotNewline, Class}
-use Rattle.pat_tree.specs.Nested.{Nested, Row, Test, Other, empty, one, line_break, seq, group, repeat, one_repeat, atomic, look, condition, call, ref, anchor, keep_out, verb, callout, none, more, any_set, in_call, in_call_of, never, assert, called, no_other, other}
+use Rattle.pat_tree.specs.Nested.{Nested, Row, Test, Other, empty, one, line_break, seq, group, repeat, one_repeat}
+use Rattle.pat_tree.specs.Nested.{atomic, look, condition, call, ref, anchor, keep_out, verb, callout, none, more}
+use Rattle.pat_tree.specs.Nested.{any_set, in_call, in_call_of, never, assert, called, no_other, other}
 use Rattle.byte_lanes.specs.declared.line_end.EndKind.{EndKind}
 use Rattle.byte_lanes.specs.Newlines.{newline_texts, newline_len}
 use Rattle.uni_text.specs.Ascii.{ascii_fold}

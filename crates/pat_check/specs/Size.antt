@@ -1,7 +1,9 @@
 -- The size of a tree with its repeats written out.
 use Rattle.std.specs.Prelude.{◌≡◌, ◌<◌, ℕ, ◌+◌, ◌*◌, List, [], ◌∷◌, length, Option, Some, None, slice_index_or}
 use Rattle.pat_lengths.specs.Lengths.{counted}
-use Rattle.pat_tree.specs.Nested.{Nested, tree_at, Row, Test, Other, empty, one, line_break, seq, group, repeat, one_repeat, atomic, look, condition, call, ref, anchor, keep_out, verb, callout, none, more, any_set, in_call, in_call_of, never, assert, called, no_other, other}
+use Rattle.pat_tree.specs.Nested.{Nested, tree_at, Row, Test, Other, empty, one, line_break, seq, group, repeat}
+use Rattle.pat_tree.specs.Nested.{one_repeat, atomic, look, condition, call, ref, anchor, keep_out, verb, callout}
+use Rattle.pat_tree.specs.Nested.{none, more, any_set, in_call, in_call_of, never, assert, called, no_other, other}
 
 -- how often the body of a repeat is written: without a maximum one more time than the minimum
 abbrev pub copies : ℕ → Option ℕ → ℕ

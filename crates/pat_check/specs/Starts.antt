@@ -1,5 +1,6 @@
 -- First bytes as they are kept, beside the definition of them.
-use Rattle.std.specs.Prelude.{◌≡◌, ℕ, ◌<◌, Bool, true, false, ◌==◌, List, [], ◌∷◌, All, length, Option, Some, None, slice_index_or}
+use Rattle.std.specs.Prelude.{◌≡◌, ℕ, ◌<◌, Bool, true, false, ◌==◌, List, [], ◌∷◌, All, length, Option, Some, None}
+use Rattle.std.specs.Prelude.{slice_index_or}
 use Rattle.byte_lanes.specs.Sets.{has_byte}
 use Rattle.byte_lanes.specs.declared.line_end.EndKind.TheVariants as kind
 use Rattle.pat_tree.specs.declared.nodes.Item.{Item}
@@ -12,7 +13,8 @@ use Rattle.pat_tree.specs.Nested.{Nested, tree_at}
 use Rattle.pat_tree.specs.Newlines.{end_kind, break_kind}
 use Rattle.pat_tree.specs.Parts.{TreeParts}
 use Rattle.char_sets.specs.Sets.{class_has}
-use Rattle.pat_check.specs.Lead.{Lead, SomeLead, lead, passes, begins, no_byte, then_lead, either_lead, takes_byte, item_lead, break_lead}
+use Rattle.pat_check.specs.Lead.{Lead, SomeLead, lead, passes, begins, no_byte, then_lead, either_lead, takes_byte}
+use Rattle.pat_check.specs.Lead.{item_lead, break_lead}
 use Rattle.pat_check.specs.declared.starts.Start.{Start}
 
 -- the bytes, and whether it is passed

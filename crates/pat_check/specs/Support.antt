@@ -1,5 +1,5 @@
--- What the search for all ends at a place can do (pcre2matching, "The alternative matching algorithm"; pcre2api, "Error returns
--- from pcre2_dfa_match()").
+-- What the search for all ends at a place can do (pcre2matching, "The alternative matching algorithm"; pcre2api, "Error
+-- returns from pcre2_dfa_match()").
 use Rattle.std.specs.Prelude.{true, false, List, [], ◌∷◌}
 use Rattle.pat_tree.specs.Nested.{Nested, Test, look, condition, call, ref, keep_out, verb, any_set, in_call_of}
 use Rattle.pat_tree.specs.declared.nodes.Verb.{Verb}

@@ -1,5 +1,6 @@
 //! What is known of a pattern.
-ghost use Rattle.std.specs.Prelude.{◌≡◌, ◌<◌, ◌≤◌, ℕ, true, false, All, List, None, IfOk, IfErr, IfSome, length, map, slice_index};
+ghost use Rattle.std.specs.Prelude.{◌≡◌, ◌<◌, ◌≤◌, ℕ, true, false, All, List, None, IfOk, IfErr, IfSome, length, map};
+ghost use Rattle.std.specs.Prelude.{slice_index};
 ghost use Rattle.pat_tree.specs.declared.nodes.Placed.{Placed};
 ghost use Rattle.pat_tree.specs.Nested.{trees, tree_at};
 ghost use Rattle.pat_tree.specs.Parts.{TreeParts, tree_of};
@@ -37,8 +38,8 @@ use std::alloc::Global;
 /// What is known of a pattern before any search.
 #[derive(Drop)]
 pub struct Facts {
-    /// The bytes that every match begins with, where they are known and each match takes one (pcre2api, "Option bits for
-    /// pcre2_compile()", PCRE2_NO_START_OPTIMIZE).
+    /// The bytes that every match begins with, where they are known and each match takes one (pcre2api, "Option bits
+    /// for pcre2_compile()", PCRE2_NO_START_OPTIMIZE).
     pub lead: Option<ByteSet>,
     /// The pattern can match an empty text (pcre2api, "Information about a compiled pattern", PCRE2_INFO_MATCHEMPTY).
     pub can_be_empty: bool,
@@ -50,7 +51,8 @@ pub struct Facts {
     pub tests_before: bool,
     /// How many nodes the pattern has with its repeats written out, at most 4,294,967,295.
     pub size: u32,
-    /// Whether the search for all ends at a place serves the pattern (pcre2matching, "The alternative matching algorithm").
+    /// Whether the search for all ends at a place serves the pattern (pcre2matching, "The alternative matching
+    /// algorithm").
     pub dfa: DfaSupport,
     /// How far each branch of a lookbehind begins before its place.
     pub backs: Backs,
@@ -136,9 +138,9 @@ impl From<Memory> for CheckError {
     }
 }
 
-/// What is known of a pattern, by its tree and the table of its classes. Refuses the first branch of a lookbehind in the
-/// pattern's order that isn't of one length or is longer than 65,535 characters; a pattern without lookbehinds is refused
-/// for want of memory alone. Nodes that aren't under the root don't count.
+/// What is known of a pattern, by its tree and the table of its classes. Refuses the first branch of a lookbehind in
+/// the pattern's order that isn't of one length or is longer than 65,535 characters; a pattern without lookbehinds is
+/// refused for want of memory alone. Nodes that aren't under the root don't count.
 pub fn check(alloc: Global, tree: &Tree, classes: &ClassTable) -> Result<Facts, CheckError>
     requires table { IsTableOf tree.now classes.now }
     ensures lead { tree.now.options.utf ≡ false → (folding : ℕ → ℕ)

@@ -13,8 +13,8 @@ use char_sets::{ClassTable, add_range, both_cases};
 use pat_tree::{Bsr, Item, Newline, Tree, newline_at};
 use uni_text::fold;
 
-/// The bytes that the characters begin with that an item takes. In UTF these are all bytes past ASCII, where the item isn't
-/// one caseful character.
+/// The bytes that the characters begin with that an item takes. In UTF these are all bytes past ASCII, where the item
+/// isn't one caseful character.
 pub(crate) fn item_bytes(tree: &Tree, classes: &ClassTable, item: &Item) -> ByteSet
     requires table { IsTableOf tree.now classes.now }
     requires class { All (λ n. n < length classes.now) (class_in item.now) }

@@ -1,5 +1,6 @@
 //! What is known of a pattern before any search: the lengths that it can match, whether it can match an empty text, the
-//! bytes that it can begin with, and its size (pcre2pattern, "Lookbehind assertions"; pcre2api, "Information about a compiled pattern").
+//! bytes that it can begin with, and its size (pcre2pattern, "Lookbehind assertions"; pcre2api, "Information about a
+//! compiled pattern").
 #![tactic(auto)]
 
 mod facts;

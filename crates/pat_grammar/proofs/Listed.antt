@@ -1,5 +1,6 @@
 -- The numbers of faults.
-use Rattle.std.proofs.Common.{◌≡◌, inl, inr, ℕ, ◌≤◌, ℤ, pos, negsuc, Bool, true, false, ◌||◌, ◌==◌, List, [], ◌∷◌, ◌++◌, length, IsTrue, refl, if◌then◌else◌}
+use Rattle.std.proofs.Common.{◌≡◌, inl, inr, ℕ, ◌≤◌, ℤ, pos, negsuc, Bool, true, false, ◌||◌, ◌==◌, List, [], ◌∷◌}
+use Rattle.std.proofs.Common.{◌++◌, length, IsTrue, refl, if◌then◌else◌}
 use Rattle.token_parts.specs.declared.fault.Fault.{Fault}
 use Rattle.std.specs.List.{list_any}
 use Rattle.token_parts.specs.Tell as own
@@ -30,15 +31,19 @@ class_listed number (inr (inr (inr (inr is)))) = rw is refl
 module _ (at : ℕ) (f : Fault) where
   pub look_listed : IsTrue (is_own f.number) → IsTrue (is_listed (fault_of_look at f).number)
   look_listed own =
-      elim (has_number 118 f.number) as (λ b. IsTrue (is_listed (if b then f else malformed at).number)) [ true ↦ own_listed f.number own | false ↦ refl ]
+      elim (has_number 118 f.number) as (λ b. IsTrue (is_listed (if b then f else malformed at).number))
+      [ true ↦ own_listed f.number own | false ↦ refl ]
 
   pub test_listed : IsTrue (is_own f.number) → IsTrue (is_listed (fault_of_test at f).number)
   test_listed own =
-      elim (has_number 138 f.number) as (λ b. IsTrue (is_listed (if b then f else fault_of_look at f).number)) [ true ↦ own_listed f.number own | false ↦ look_listed own ]
+      elim (has_number 138 f.number) as (λ b. IsTrue (is_listed (if b then f else fault_of_look at f).number))
+      [ true ↦ own_listed f.number own | false ↦ look_listed own ]
 
   module _ (text : List ℕ) (inside : at ≤ length text) (there : f.at ≤ length text) where
     pub look_inside : (fault_of_look at f).at ≤ length text
-    look_inside = elim (has_number 118 f.number) as (λ b. (if b then f else malformed at).at ≤ length text) [ true ↦ there | false ↦ inside ]
+    look_inside = elim (has_number 118 f.number) as (λ b. (if b then f else malformed at).at ≤ length text)
+        [ true ↦ there | false ↦ inside ]
 
     pub test_inside : (fault_of_test at f).at ≤ length text
-    test_inside = elim (has_number 138 f.number) as (λ b. (if b then f else fault_of_look at f).at ≤ length text) [ true ↦ there | false ↦ look_inside ]
+    test_inside = elim (has_number 138 f.number) as (λ b. (if b then f else fault_of_look at f).at ≤ length text)
+        [ true ↦ there | false ↦ look_inside ]

@@ -17,12 +17,15 @@ module _ (text : List ℕ) (st : State) (n : ℕ) where
 
     pub start_ends : ((item : StartItem) → token ≡ Start item → ⊥) → started text (suc n) st ≡ Ok st
     unfolding started
-    start_ends other = rw next_is (elim token as (λ v. token ≡ v → started_by text st (started text n) (Ok (v, record st { at = place })) ≡ Ok st) [
-      | Start item ↦ λ e. absurd (other item e)
-      | _ ↦ λ e. refl
-    ] refl)
+    start_ends other =
+        rw next_is (elim token as (λ v. token ≡ v → started_by text st (started text n)
+        (Ok (v, record st { at = place })) ≡ Ok st) [
+          | Start item ↦ λ e. absurd (other item e)
+          | _ ↦ λ e. refl
+        ] refl)
 
-    pub start_item : (item : StartItem) → token ≡ Start item → started text (suc n) st ≡ started text n (record st { at = place; options = with_item item st.options })
+    pub start_item : (item : StartItem) → token ≡ Start item
+        → started text (suc n) st ≡ started text n (record st { at = place; options = with_item item st.options })
     unfolding started
     start_item item is = rw (next_is, is) refl
 

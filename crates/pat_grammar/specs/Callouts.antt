@@ -1,5 +1,6 @@
 -- Callouts, and the items before which they stand (pcre2pattern, "Callouts"; pcre2callout).
-use Rattle.std.specs.Prelude.{ℕ, zero, suc, ◌+◌, ◌-◌, ◌==◌, ◌&&◌, Bool, true, false, List, ◌∷◌, length, Option, Some, None, Result, Ok, Err, if◌then◌else◌}
+use Rattle.std.specs.Prelude.{ℕ, zero, suc, ◌+◌, ◌-◌, ◌==◌, ◌&&◌, Bool, true, false, List, ◌∷◌, length, Option, Some}
+use Rattle.std.specs.Prelude.{None, Result, Ok, Err, if◌then◌else◌}
 use Rattle.pat_tree.specs.declared.nodes.ClassSpec.{ClassSpec}
 use Rattle.pat_tree.specs.Nested.{Nested, callout}
 use Rattle.token_parts.specs.declared.fault.Fault.{Fault}
@@ -12,7 +13,8 @@ use Rattle.pat_grammar.specs.Classes.{class_spec}
 
 -- What is no item: what is passed over, and an option setting. The state after the token is given.
 abbrev pub set_over : Token → State → Option State
-set_over (token.OptionSet reset on off false) after = Some (record after { options = with_setting reset on off after.options })
+set_over (token.OptionSet reset on off false) after =
+    Some (record after { options = with_setting reset on off after.options })
 set_over found after = passed_over found after
 
 -- where an item ends at this place, but for the quantifier that this token may be
@@ -36,7 +38,8 @@ module _ (text : List ℕ) where
 
   -- where the item ends that begins with a token, from the state after it
   abbrev pub item_end : Token → State → ℕ
-  item_end (token.ClassStart negated) after = quantified_end (state_after after (class_spec text (length text + 2) negated after))
+  item_end (token.ClassStart negated) after =
+      quantified_end (state_after after (class_spec text (length text + 2) negated after))
   item_end _ after = quantified_end after
 
   -- the place and the length of an item that begins with a token, or of one after it
@@ -52,16 +55,23 @@ module _ (text : List ℕ) where
   item_from zero st = (st.at, 0)
   item_from (suc n) st = item_at (item_from n) st (next text false st)
 
-  -- The place and the length of the next item. What is passed over and option settings are no items; at the end of the text
-  -- there is one without a length.
+  -- The place and the length of the next item. What is passed over and option settings are no items; at the end of the
+  -- text there is one without a length.
   unfoldable pub next_item : State → ℕ × ℕ
   next_item st = item_from (length text + 2) st
 
 -- a callout before such an item
 abbrev pub callout_of : ℕ → ℕ → ℕ → ℕ × ℕ → Nested
-callout_of number from to found = callout (record { number = number; text_from = from; text_to = to; item_at = found.0; item_len = found.1 })
+callout_of number from to found = callout (record {
+  number = number;
+  text_from = from;
+  text_to = to;
+  item_at = found.0;
+  item_len = found.1;
+})
 
--- a token before which an automatic callout may stand: an item but a callout that is written, or the end of an alternative
+-- a token before which an automatic callout may stand: an item but a callout that is written, or the end of an
+-- alternative
 abbrev pub is_item : Token → Bool
 is_item token.Passed = false
 is_item token.QuoteOn = false

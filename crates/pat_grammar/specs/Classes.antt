@@ -1,5 +1,6 @@
 -- What stands between the brackets of a class (pcre2pattern, "Square brackets and character classes").
-use Rattle.std.specs.Prelude.{ℕ, zero, suc, Bool, true, false, not, ◌&&◌, nat_lt, List, [], ◌∷◌, length, Option, Some, None, Result, Ok, Err, slice_range, if◌then◌else◌}
+use Rattle.std.specs.Prelude.{ℕ, zero, suc, Bool, true, false, not, ◌&&◌, nat_lt, List, [], ◌∷◌, length, Option}
+use Rattle.std.specs.Prelude.{Some, None, Result, Ok, Err, slice_range, if◌then◌else◌}
 use Rattle.std.specs.Str.{byte}
 use Rattle.pat_tree.specs.declared.nodes.Part.{Part}
 use Rattle.pat_tree.specs.declared.nodes.Part.TheVariants as part
@@ -46,8 +47,8 @@ abbrev pub part_then : Part → Reads (List Part) → Reads (List Part)
 part_then p rest = rest >>= λ (parts, end). Ok (p ∷ parts, end)
 
 module _ (text : List ℕ) where
-  -- What a character at `here` and a hyphen begin, the hyphen being between two states: with a character after it a range.
-  -- The hyphen is a character where it is last, and may not stand before a set.
+  -- What a character at `here` and a hyphen begin, the hyphen being between two states: with a character after it a
+  -- range. The hyphen is a character where it is last, and may not stand before a set.
   unfoldable pub range_or_hyphen : ℕ → (State → Reads (List Part)) → ℕ → State → State → State → Reads (List Part)
   range_or_hyphen n rest c here before after = item text true n after >>= λ (token, to, end). elim (character token) [
     | Some d ↦ if nat_lt d c then fault 108 here.at else part_then (part.Range c d) (rest end)
@@ -64,13 +65,15 @@ module _ (text : List ℕ) where
   unfoldable pub from_set : ℕ → (State → Reads (List Part)) → Part → State → Reads (List Part)
   from_set n rest set after = do
     (hyphen, before, beyond) ← item text true n after
-    if is_hyphen hyphen && not (is_last_item (item text true n beyond)) then fault 150 before.at else part_then set (rest after)
+    if is_hyphen hyphen && not (is_last_item (item text true n beyond)) then fault 150 before.at else part_then set
+        (rest after)
 
   -- What begins at a token. A bracket that closes nothing yet is a character, unless a class may be empty.
   abbrev pub from_item : ℕ → (State → Reads (List Part)) → Bool → Token → State → State → Reads (List Part)
   from_item n rest first End here after = fault 106 (length text)
   from_item n rest first ClassEnd here after =
-      if first && not here.options.allow_empty_class then from_character n rest (byte "]") here after else Ok ([], after)
+      if first && not here.options.allow_empty_class then from_character n rest (byte "]") here after else Ok
+      ([], after)
   from_item n rest first Hyphen here after = from_character n rest (byte "-") here after
   from_item n rest first (Literal c) here after = from_character n rest c here after
   from_item n rest first (Set set outside) here after = from_set n rest (part.Set set outside here.options.ucp) after
@@ -81,7 +84,8 @@ module _ (text : List ℕ) where
   -- the parts up to the closing bracket, from the first one on or from a later one
   unfoldable pub class_parts : ℕ → Bool → State → Reads (List Part)
   class_parts zero first st = fault 0 0
-  class_parts (suc n) first st = item text true n st >>= λ (token, here, after). from_item n (class_parts n false) first token here after
+  class_parts (suc n) first st = item text true n st >>= λ (token, here, after). from_item n (class_parts n false)
+      first token here after
 
   -- a class from the place after its opening bracket on
   unfoldable pub class_spec : ℕ → Bool → State → Reads ClassSpec

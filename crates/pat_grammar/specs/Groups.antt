@@ -1,10 +1,13 @@
 -- Groups, their numbers and their names (pcre2pattern, "Groups", "Named capture groups", "Backreferences").
-use Rattle.std.specs.Prelude.{ℕ, zero, suc, ◌+◌, ◌-◌, Bool, true, false, not, ◌&&◌, ◌||◌, ◌==◌, max, nat_le, nat_lt, List, [], ◌∷◌, map, filter, flat_map, Option, Some, None, Result, Ok, slice_range, if◌then◌else◌}
+use Rattle.std.specs.Prelude.{ℕ, zero, suc, ◌+◌, ◌-◌, Bool, true, false, not, ◌&&◌, ◌||◌, ◌==◌, max, nat_le, nat_lt}
+use Rattle.std.specs.Prelude.{List, [], ◌∷◌, map, filter, flat_map, Option, Some, None, Result, Ok, slice_range}
+use Rattle.std.specs.Prelude.{if◌then◌else◌}
 use Rattle.std.specs.List.{list_any}
 use Rattle.std.specs.Str.{bytes_eq}
 use Rattle.pat_tree.specs.declared.options.Options.{Options}
 use Rattle.pat_tree.specs.declared.names.NameEntry.{NameEntry}
-use Rattle.pat_tree.specs.Nested.{Nested, Test, empty, group, atomic, look, condition, any_set, in_call, in_call_of, never, no_other, other, row, test_of}
+use Rattle.pat_tree.specs.Nested.{Nested, Test, empty, group, atomic, look, condition, any_set, in_call, in_call_of}
+use Rattle.pat_tree.specs.Nested.{never, no_other, other, row, test_of}
 use Rattle.pat_tree.specs.Names.{with_name}
 use Rattle.pat_tree.specs.Refs.{bad_ref, beside_whole}
 use Rattle.token_parts.specs.declared.fault.Fault.{Fault}
@@ -110,10 +113,14 @@ groups_after (Reset base greatest) groups = max greatest groups
 
 -- the state after a bar, where the next alternative begins
 abbrev pub restarted : State → Bars → State → State
-restarted st bars after = record after { bars = bars; numbering = next_numbering st.numbering st.groups; groups = groups_before st.numbering st.groups }
+restarted st bars after = record after {
+  bars = bars;
+  numbering = next_numbering st.numbering st.groups;
+  groups = groups_before st.numbering st.groups;
+}
 
--- a group whose inside is read: what holds around it (the options, whether that is inside a lookaround, the alternatives
--- that the group around may still have and how they number groups), and its place
+-- a group whose inside is read: what holds around it (the options, whether that is inside a lookaround, the
+-- alternatives that the group around may still have and how they number groups), and its place
 pub record Opening : Type 0 where
   pub form : Form
   pub around : Options
@@ -158,8 +165,20 @@ unfoldable pub opened : State → Form → State → Opens
 opened st form after =
     if nat_le 250 st.depth then fault 119 st.at
     else Ok (
-      record { form = form; around = st.options; looking = st.looking; bars = st.bars; numbering = st.numbering; at = st.at },
-      record after { depth = st.depth + 1; looking = is_look form || st.looking; bars = bars_in form; numbering = Onward },
+      record {
+        form = form;
+        around = st.options;
+        looking = st.looking;
+        bars = st.bars;
+        numbering = st.numbering;
+        at = st.at;
+      },
+      record after {
+        depth = st.depth + 1;
+        looking = is_look form || st.looking;
+        bars = bars_in form;
+        numbering = Onward;
+      },
     )
 
 -- a capturing group has the next number
@@ -170,14 +189,16 @@ captured st after = opened st (grouped (Some (st.groups + 1))) (record after { g
 -- A name that a group of another number has needs DUPNAMES, and groups of one number have one name.
 unfoldable pub named : State → List ℕ → State → Opens
 named st name after =
-    captured st (record after { names = with_name (record { name = name; group = st.groups + 1 }) st.names }) >>= λ group.
+    captured st (record after { names = with_name (record { name = name; group = st.groups + 1 }) st.names }) >>=
+    λ group.
     if not st.options.dupnames && list_any (is_elsewhere name (st.groups + 1)) st.names then fault 143 st.at
     else if list_any (is_other name (st.groups + 1)) st.names then fault 165 st.at
     else Ok group
 
 -- a branch reset
 unfoldable pub reset : State → State → Opens
-reset st after = opened st (grouped None) after >>= λ (how, begun). Ok (how, record begun { numbering = Reset st.groups st.groups })
+reset st after = opened st (grouped None) after >>= λ (how, begun). Ok
+    (how, record begun { numbering = Reset st.groups st.groups })
 
 -- No group has the number 0: it stands for what names no group.
 abbrev pub or_none : List ℕ → List ℕ
@@ -188,8 +209,8 @@ or_none (n ∷ ns) = n ∷ ns
 unfoldable pub groups_of : List NameEntry → List ℕ → List ℕ
 groups_of known name = or_none (map (λ entry. entry.group) (filter (has_name name) known))
 
--- The groups that a reference names, by the names of the whole pattern. Groups are counted on and back from the last that
--- was opened; too far back is no group.
+-- The groups that a reference names, by the names of the whole pattern. Groups are counted on and back from the last
+-- that was opened; too far back is no group.
 unfoldable pub named_by : List NameEntry → List ℕ → State → Target → Result (List ℕ) Fault
 named_by known text st (Number n) = Ok (n ∷ [])
 named_by known text st (Plus n) = if nat_lt 65535 (st.groups + n) then fault 161 st.at else Ok ((st.groups + n) ∷ [])
@@ -217,10 +238,13 @@ IsWorded _ = Unit {0}
 
 -- a conditional group by the text of its test
 unfoldable pub form_in : List NameEntry → List ℕ → State → CondText → List ℕ → Result Form Fault
-form_in known text st (tested.Group target) word = named_by known text st target >>= λ groups. Ok (conditional (any_set groups))
+form_in known text st (tested.Group target) word = named_by known text st target >>= λ groups. Ok
+    (conditional (any_set groups))
 form_in known text st tested.InCall word = Ok (conditional (unless_named known word in_call))
-form_in known text st (tested.InCallOf (Number n)) word = Ok (conditional (unless_named known word (in_call_of (called_number n ∷ []))))
-form_in known text st (tested.InCallOf target) word = named_by known text st target >>= λ groups. Ok (conditional (called_by groups))
+form_in known text st (tested.InCallOf (Number n)) word =
+    Ok (conditional (unless_named known word (in_call_of (called_number n ∷ []))))
+form_in known text st (tested.InCallOf target) word =
+    named_by known text st target >>= λ groups. Ok (conditional (called_by groups))
 form_in known text st tested.Define word = Ok defines
 form_in known text st tested.Lookaround word = fault 128 st.at
 

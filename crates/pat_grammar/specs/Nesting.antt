@@ -1,6 +1,8 @@
 -- How deep the atomic groups and the lookarounds of a tree stand in each other.
 use Rattle.std.specs.Prelude.{ℕ, suc, max}
-use Rattle.pat_tree.specs.Nested.{Nested, Row, Test, Other, empty, one, line_break, seq, group, repeat, one_repeat, atomic, look, condition, call, ref, anchor, keep_out, verb, callout, none, more, any_set, in_call, in_call_of, never, assert, called, no_other, other}
+use Rattle.pat_tree.specs.Nested.{Nested, Row, Test, Other, empty, one, line_break, seq, group, repeat, one_repeat}
+use Rattle.pat_tree.specs.Nested.{atomic, look, condition, call, ref, anchor, keep_out, verb, callout, none, more}
+use Rattle.pat_tree.specs.Nested.{any_set, in_call, in_call_of, never, assert, called, no_other, other}
 
 unfoldable mutual
   pub nesting : Nested → ℕ

@@ -3,7 +3,8 @@ use Rattle.std.specs.Prelude.{ℕ, min, Bool, true, false, not, ◌&&◌, ◌||�
 use Rattle.pat_tree.specs.declared.options.Options.{Options}
 use Rattle.token_parts.specs.declared.token.OptionMask.{OptionMask}
 use Rattle.token_parts.specs.declared.token.StartItem.{StartItem}
-use Rattle.token_parts.specs.declared.token.StartItem.TheVariants.{NewlineIs, BsrIs, Utf, Ucp, NotEmpty, NotEmptyAtStart, NoStartOpt, NoEffect, LimitMatch}
+use Rattle.token_parts.specs.declared.token.StartItem.TheVariants.{NewlineIs, BsrIs, Utf, Ucp, NotEmpty}
+use Rattle.token_parts.specs.declared.token.StartItem.TheVariants.{NotEmptyAtStart, NoStartOpt, NoEffect, LimitMatch}
 
 -- an option that was on or off before: first it may be unset, then set, then unset
 abbrev pub turned : Bool → Bool → Bool → Bool → Bool

@@ -1,5 +1,7 @@
 -- What each token begins, outside classes.
-use Rattle.std.specs.Prelude.{ℕ, zero, suc, ◌+◌, min, ℤ, pos, negsuc, Bool, true, false, not, ◌&&◌, ◌==◌, List, [], ◌∷◌, ◌++◌, length, nat_le, Option, Some, None, Result, Ok, Err, slice_range, if◌then◌else◌}
+use Rattle.std.specs.Prelude.{ℕ, zero, suc, ◌+◌, min, ℤ, pos, negsuc, Bool, true, false, not, ◌&&◌, ◌==◌, List, []}
+use Rattle.std.specs.Prelude.{◌∷◌, ◌++◌, length, nat_le, Option, Some, None, Result, Ok, Err, slice_range}
+use Rattle.std.specs.Prelude.{if◌then◌else◌}
 use Rattle.pat_tree.specs.declared.nodes.Item.TheVariants as item
 use Rattle.pat_tree.specs.declared.nodes.AnchorKind.{AnchorKind}
 use Rattle.pat_tree.specs.declared.nodes.AnchorKind.TheVariants as kind
@@ -7,7 +9,8 @@ use Rattle.pat_tree.specs.declared.nodes.Part.{Part}
 use Rattle.pat_tree.specs.declared.nodes.Part.TheVariants as part
 use Rattle.pat_tree.specs.declared.nodes.ClassSpec.{ClassSpec}
 use Rattle.pat_tree.specs.declared.names.NameEntry.{NameEntry}
-use Rattle.pat_tree.specs.Nested.{Nested, empty, one, line_break, seq, repeat, one_repeat, atomic, look, call, ref, anchor, keep_out, verb, row}
+use Rattle.pat_tree.specs.Nested.{Nested, empty, one, line_break, seq, repeat, one_repeat, atomic, look, call, ref}
+use Rattle.pat_tree.specs.Nested.{anchor, keep_out, verb, row}
 use Rattle.pat_tree.specs.Refs.{beside_whole}
 use Rattle.token_parts.specs.declared.fault.Fault.{Fault}
 use Rattle.token_parts.specs.declared.token.OpenKind.{OpenKind}
@@ -27,7 +30,8 @@ use Rattle.pat_grammar.specs.Options.{with_setting}
 use Rattle.pat_grammar.specs.Verbs.{verb_of, number_of_name, names_after, may_be_repeated}
 use Rattle.pat_grammar.specs.Classes.{class_spec, property_part}
 use Rattle.pat_grammar.specs.Callouts.{next_item, callout_of}
-use Rattle.pat_grammar.specs.Groups.{Opening, Opens, grouped, atomically, looks, asserted, asserting, opened, captured, named, reset, named_by, form_in, beyond_after}
+use Rattle.pat_grammar.specs.Groups.{Opening, Opens, grouped, atomically, looks, asserted, asserting, opened}
+use Rattle.pat_grammar.specs.Groups.{captured, named, reset, named_by, form_in, beyond_after}
 
 -- An alternative without parts is empty, one with one part is that part.
 abbrev pub alternative : List Nested → Nested
@@ -43,7 +47,8 @@ once_more low (Some high) = Some high
 -- what takes one character has a repeat of its own
 abbrev pub repeat_of : ℕ → Option ℕ → Bool → Nested → Nested
 repeat_of low high lazy (one item) = one_repeat item low high lazy
-repeat_of low high lazy (look ahead positive once ts) = repeat (look ahead positive once ts) low (once_more low high) lazy
+repeat_of low high lazy (look ahead positive once ts) =
+    repeat (look ahead positive once ts) low (once_more low high) lazy
 repeat_of low high lazy t = repeat t low high lazy
 
 -- UNGREEDY swaps greedy and lazy
@@ -85,7 +90,8 @@ simple kind next = Ok (bare (anchor kind) next)
 
 -- a class is a new entry of the table
 abbrev pub of_class : ClassSpec → State → Beginning
-of_class spec after = atom (one (item.Class (length after.classes))) (record after { classes = after.classes ++ spec ∷ [] })
+of_class spec after = atom (one (item.Class (length after.classes)))
+    (record after { classes = after.classes ++ spec ∷ [] })
 
 -- A type outside a class is a class of its own.
 abbrev pub type_class : State → Part → ClassSpec
@@ -102,19 +108,25 @@ boundary false ucp = kind.Word ucp
 
 abbrev pub with_reference : State → State → List ℕ → Beginning
 with_reference st next groups =
-    atom (ref groups st.options.caseless) (record next { references = st.references ++ record { at = st.at; groups = groups } ∷ [] })
+    atom (ref groups st.options.caseless)
+    (record next { references = st.references ++ record { at = st.at; groups = groups } ∷ [] })
 
 -- a call of a group ("Recursive patterns", "Groups as subroutines")
 abbrev pub with_call : State → State → ℕ → Beginning
 with_call st next n =
-    atom (call n) (record next { references = st.references ++ record { at = st.at; groups = beside_whole (n ∷ []) } ∷ [] })
+    atom (call n) (record next {
+      references = st.references ++ record {
+        at = st.at;
+        groups = beside_whole (n ∷ []);
+      } ∷ [];
+    })
 
 abbrev pub is_number : Target → Bool
 is_number (Number n) = true
 is_number _ = false
 
--- The group that is called, the first of those of a name. The whole pattern is called by its number 0 alone: a name or a
--- relative number that gives 0 names no group.
+-- The group that is called, the first of those of a name. The whole pattern is called by its number 0 alone: a name or
+-- a relative number that gives 0 names no group.
 abbrev pub number_called : Bool → List ℕ → Option ℕ
 number_called by_number [] = None
 number_called true (n ∷ ns) = Some n
@@ -157,7 +169,8 @@ callouts calling text number from to st next =
 unfoldable pub conditions : List NameEntry → List ℕ → State → CondText → List ℕ → State → Result Beginning Fault
 conditions known text st cond word next =
     if nat_le 250 st.depth then fault 119 st.at
-    else form_in known text st cond word >>= λ form. enters (opened st form (record next { beyond = beyond_after known st cond word }))
+    else form_in known text st cond word >>= λ form. enters
+    (opened st form (record next { beyond = beyond_after known st cond word }))
 
 -- what a lookaround that a conditional group tests says: ahead, positive, the states before and
 -- after its parenthesis, and the callout before it, if one stands there
@@ -233,8 +246,8 @@ assertions calling text n st next = do
   Ok (asserts how lead test start)
 
 module _ (known : Known) (text : List ℕ) where
-  -- By the names of the whole pattern, since a name may be given later than it is used: what begins at a token, from the
-  -- state before it and the state after it. The number bounds the items of a class.
+  -- By the names of the whole pattern, since a name may be given later than it is used: what begins at a token, from
+  -- the state before it and the state after it. The number bounds the items of a class.
   abbrev pub beginning : ℕ → State → Token → State → Result Beginning Fault
   -- the alternative ends
   beginning n st token.End next = Ok over
@@ -247,8 +260,10 @@ module _ (known : Known) (text : List ℕ) where
   beginning n st token.LineBreak next = Ok (atom line_break next)
   beginning n st (token.Set set outside) next = Ok (of_class (type_class st (part.Set set outside st.options.ucp)) next)
   beginning n st (token.Property from to outside) next =
-      property_part (slice_range text from to) outside st.options.ucp st.at >>= λ p. Ok (of_class (type_class st p) next)
-  beginning n st (token.ClassStart negated) next = class_spec text n negated next >>= λ (spec, after). Ok (of_class spec after)
+      property_part (slice_range text from to) outside st.options.ucp st.at >>= λ p. Ok
+      (of_class (type_class st p) next)
+  beginning n st (token.ClassStart negated) next = class_spec text n negated next >>= λ (spec, after). Ok
+      (of_class spec after)
   -- simple assertions and `\K`
   beginning n st token.Caret next = simple (kind.Caret st.options.multiline) next
   beginning n st token.Dollar next = simple (kind.Dollar st.options.multiline st.options.dollar_endonly) next
@@ -259,23 +274,29 @@ module _ (known : Known) (text : List ℕ) where
   beginning n st (token.Boundary opposite) next = simple (boundary opposite st.options.ucp) next
   beginning n st token.KeepOut next = if st.looking then fault 199 st.at else Ok (bare keep_out next)
   -- references
-  beginning n st (token.Reference target) next = named_by known.names text st target >>= λ groups. Ok (with_reference st next groups)
+  beginning n st (token.Reference target) next = named_by known.names text st target >>= λ groups. Ok
+      (with_reference st next groups)
   -- calls
   beginning n st (token.CallTo target) next = calls known.names text st target next
   -- groups
-  beginning n st (token.Open opening.Capture) next = enters (if st.options.no_auto_capture then opened st (grouped None) next else captured st next)
+  beginning n st (token.Open opening.Capture) next =
+      enters (if st.options.no_auto_capture then opened st (grouped None) next else captured st next)
   beginning n st (token.Open opening.Plain) next = enters (opened st (grouped None) next)
   beginning n st (token.Open opening.BranchReset) next = enters (reset st next)
   beginning n st (token.Open opening.Atomic) next = enters (opened st atomically next)
-  beginning n st (token.Open (opening.Look ahead positive once)) next = enters (opened st (looks ahead positive once) next)
+  beginning n st (token.Open (opening.Look ahead positive once)) next =
+      enters (opened st (looks ahead positive once) next)
   beginning n st (token.Open (opening.Named from to)) next = enters (named st (slice_range text from to) next)
-  beginning n st (token.OptionSet reset on off true) next = enters (opened st (grouped None) (record next { options = with_setting reset on off st.options }))
+  beginning n st (token.OptionSet reset on off true) next =
+      enters (opened st (grouped None) (record next { options = with_setting reset on off st.options }))
   beginning n st (token.CondStart tested.Lookaround from to) next = assertions known.calling text n st next
-  beginning n st (token.CondStart cond from to) next = conditions known.names text st cond (slice_range text from to) next
+  beginning n st (token.CondStart cond from to) next =
+      conditions known.names text st cond (slice_range text from to) next
   -- verbs
   beginning n st (token.VerbItem kind from to) next = verbs kind (slice_range text from to) st next
   -- what is no part
-  beginning n st (token.OptionSet reset on off false) next = Ok (nothing (record next { options = with_setting reset on off st.options }))
+  beginning n st (token.OptionSet reset on off false) next =
+      Ok (nothing (record next { options = with_setting reset on off st.options }))
   beginning n st token.Passed next = Ok (nothing next)
   beginning n st token.QuoteOn next = Ok (nothing (record next { quoting = true }))
   beginning n st token.QuoteOff next = Ok (nothing (record next { quoting = false }))

@@ -1,5 +1,6 @@
 -- What the definitions give at the places of a cursor.
-use Rattle.std.specs.Prelude.{◌≡◌, ℕ, ◌+◌, ◌<◌, ◌≤◌, ℤ, pos, negsuc, Bool, false, not, ◌&&◌, ◌==◌, List, [], ◌∷◌, ◌++◌, length, None, Result, Err, IsTrue, ◌⊎◌}
+use Rattle.std.specs.Prelude.{◌≡◌, ℕ, ◌+◌, ◌<◌, ◌≤◌, ℤ, pos, negsuc, Bool, false, not, ◌&&◌, ◌==◌, List, [], ◌∷◌}
+use Rattle.std.specs.Prelude.{◌++◌, length, None, Result, Err, IsTrue, ◌⊎◌}
 use Rattle.std.specs.List.{list_any}
 use Rattle.pat_tree.specs.declared.nodes.Part.{Part}
 use Rattle.token_parts.specs.declared.fault.Fault.{Fault}
@@ -23,12 +24,32 @@ moved_to st place = record st { at = place.at; quoting = place.quoting }
 
 -- the state at a place, with the options and the groups of a cursor
 abbrev pub state_at : Cursor → State → Place → State
-state_at cursor st place = record st { at = place.at; quoting = place.quoting; options = cursor.options; groups = cursor.groups }
+state_at cursor st place = record st {
+  at = place.at;
+  quoting = place.quoting;
+  options = cursor.options;
+  groups = cursor.groups;
+}
 
 -- what the tokens depend on at a place, which is nothing else of the state
 abbrev pub flags_at : Cursor → Bool → Place → LexFlags
 flags_at cursor in_class place =
-    flags_of in_class (record { at = place.at; quoting = place.quoting; options = cursor.options; groups = cursor.groups; depth = 0; looking = false; bars = Free; numbering = Onward; classes = []; names = []; verb_names = []; references = []; beyond = None; called = None })
+    flags_of in_class (record {
+      at = place.at;
+      quoting = place.quoting;
+      options = cursor.options;
+      groups = cursor.groups;
+      depth = 0;
+      looking = false;
+      bars = Free;
+      numbering = Onward;
+      classes = [];
+      names = [];
+      verb_names = [];
+      references = [];
+      beyond = None;
+      called = None;
+    })
 
 -- What is said of a text, of a number that bounds the items of a class, and of the states at the places.
 abbrev pub Claim : Type 1
@@ -40,7 +61,8 @@ PartReading = List ℕ → ℕ → (State → Reads (List Part)) → (Place → 
 
 -- the readings that begin with a character, with a set, and with any item, between such places
 abbrev pub range_between : ℕ → Place → Place → Place → PartReading
-range_between c here before after = λ text n rest state. range_or_hyphen text n rest c (state here) (state before) (state after)
+range_between c here before after = λ text n rest state. range_or_hyphen text n rest c (state here) (state before)
+    (state after)
 
 abbrev pub character_between : ℕ → Place → Place → PartReading
 character_between c here after = λ text n rest state. from_character text n rest c (state here) (state after)
@@ -54,11 +76,13 @@ item_between first token here after = λ text n rest state. from_item text n res
 module _ (cursor : Cursor) (place : Place) where
   -- From every state of the reader, and for every bound of more than the bytes that are left at the place.
   abbrev pub Always : Claim → Type 0
-  Always claim = (st : State) (n : ℕ) → length cursor.text.now < n + place.at → claim cursor.text.now n (state_at cursor st)
+  Always claim = (st : State) (n : ℕ) → length cursor.text.now < n + place.at
+      → claim cursor.text.now n (state_at cursor st)
 
   -- The same for every bound of at least two more than the bytes that are left, as where a class begins.
   abbrev pub AlwaysFromStart : Claim → Type 0
-  AlwaysFromStart claim = (st : State) (n : ℕ) → length cursor.text.now + 1 < n + place.at → claim cursor.text.now n (state_at cursor st)
+  AlwaysFromStart claim = (st : State) (n : ℕ) → length cursor.text.now + 1 < n + place.at
+      → claim cursor.text.now n (state_at cursor st)
 
   -- Always a part is read, and the parts from the next place on after it.
   abbrev pub GivesPart : PartReading → Part → Place → Type 0
@@ -114,4 +138,5 @@ IsInText text Memory = Unit {0}
 
 -- the faults in a class: those of its tokens, and 106, 108, 147 and 150
 abbrev pub IsClassFault : ℤ → Type 0
-IsClassFault number = IsTrue (is_own number) ⊎ (number ≡ pos 106) ⊎ (number ≡ pos 108) ⊎ (number ≡ pos 147) ⊎ (number ≡ pos 150)
+IsClassFault number = IsTrue (is_own number) ⊎ (number ≡ pos 106) ⊎ (number ≡ pos 108) ⊎ (number ≡ pos 147) ⊎
+    (number ≡ pos 150)

@@ -1,8 +1,10 @@
 -- What a pattern is read as: a tree with its tables, or the first fault (pcre2pattern).
 --
--- The grammar has alternatives, each a sequence of parts, a part being an atom under the quantifier that follows it. Where a
--- number stands as a first argument it bounds how deep the calls go; twice the bytes that are left, and two, are enough.
-use Rattle.std.specs.Prelude.{ℕ, zero, suc, ◌+◌, ◌-◌, ◌*◌, negsuc, Bool, true, false, not, ◌&&◌, nat_lt, List, [], ◌∷◌, ◌++◌, length, map, Option, Some, None, Result, Ok, Err, if◌then◌else◌, chars}
+-- The grammar has alternatives, each a sequence of parts, a part being an atom under the quantifier that follows it.
+-- Where a number stands as a first argument it bounds how deep the calls go; twice the bytes that are left, and two,
+-- are enough.
+use Rattle.std.specs.Prelude.{ℕ, zero, suc, ◌+◌, ◌-◌, ◌*◌, negsuc, Bool, true, false, not, ◌&&◌, nat_lt, List, []}
+use Rattle.std.specs.Prelude.{◌∷◌, ◌++◌, length, map, Option, Some, None, Result, Ok, Err, if◌then◌else◌, chars}
 use Rattle.std.specs.Str.{is_utf8}
 use Rattle.std.specs.Char.{len_utf8}
 use Rattle.std.specs.Str.Lossy.{utf8_valid_len}
@@ -23,7 +25,8 @@ use Rattle.pat_grammar.specs.declared.alternatives.Numbering.TheVariants.{Onward
 use Rattle.pat_grammar.specs.Groups.{Opening, barred, restarted, groups_after, built, noted, missing}
 use Rattle.pat_grammar.specs.Callouts.{automatic, callout_of, called_after, led}
 use Rattle.pat_grammar.specs.declared.callouts.NextItem.{NextItem}
-use Rattle.pat_grammar.specs.Parts.{Beginning, atom, bare, inside, asserts, nothing, over, alternative, repeated, beginning}
+use Rattle.pat_grammar.specs.Parts.{Beginning, atom, bare, inside, asserts, nothing, over, alternative, repeated}
+use Rattle.pat_grammar.specs.Parts.{beginning}
 
 module _ (text : List ℕ) where
   -- the atom under the quantifier that may follow it, also past comments, ignored white space, `\Q` and `\E`
@@ -59,8 +62,10 @@ module _ (text : List ℕ) where
     (parts, end) ← rest st
     Ok (part ∷ parts, end)
 
-  -- The parts from what begins at the state `st`, where `inner` reads the alternatives of a group and `rest` a sequence.
-  abbrev pub parts_from : ℕ → (State → Reads (List Nested)) → (State → Reads (List Nested)) → State → Beginning → Reads (List Nested)
+  -- The parts from what begins at the state `st`, where `inner` reads the alternatives of a group and `rest` a
+  -- sequence.
+  abbrev pub parts_from : ℕ → (State → Reads (List Nested)) → (State → Reads (List Nested)) → State → Beginning
+      → Reads (List Nested)
   parts_from n inner rest st (atom t after) = part_then rest (quantified n t after)
   parts_from n inner rest st (bare t after) = part_then rest (Ok (t, after))
   parts_from n inner rest st (inside opening start) = part_then rest (do
@@ -79,13 +84,15 @@ module _ (text : List ℕ) where
   -- an alternative of these parts, and those after a bar
   unfoldable pub alternatives_from : (State → Reads (List Nested)) → List Nested → State → Reads (List Nested)
   alternatives_from again parts st = next text false st >>= λ (token, after). elim token [
-    | Bar ↦ barred st.bars st.at >>= λ bars. again (restarted st bars after) >>= λ (others, end). Ok (alternative parts ∷ others, end)
+    | Bar ↦ barred st.bars st.at >>= λ bars. again (restarted st bars after) >>= λ (others, end). Ok
+        (alternative parts ∷ others, end)
     | _ ↦ Ok (alternative parts ∷ [], st)
   ]
 
 module _ (known : Known) (text : List ℕ) where
   -- the parts from a state on where no automatic callout is due
-  unfoldable pub sequence_at : ℕ → (State → Reads (List Nested)) → (State → Reads (List Nested)) → State → Reads (List Nested)
+  unfoldable pub sequence_at : ℕ → (State → Reads (List Nested)) → (State → Reads (List Nested)) → State
+      → Reads (List Nested)
   sequence_at n inner rest st = do
     (token, after) ← next text false st
     what ← beginning known text n st token after
@@ -96,7 +103,8 @@ module _ (known : Known) (text : List ℕ) where
     pub sequence : ℕ → State → Reads (List Nested)
     sequence zero st = fault 0 0
     sequence (suc n) st =
-        led (automatic known.calling text st) (sequence_at n (alternatives n) (sequence n) (called_after (automatic known.calling text st) st))
+        led (automatic known.calling text st) (sequence_at n (alternatives n) (sequence n)
+        (called_after (automatic known.calling text st) st))
 
     -- the alternatives up to the end of the group or of the pattern
     pub alternatives : ℕ → State → Reads (List Nested)
@@ -116,8 +124,8 @@ whole text branches st = next text false st >>= λ (token, after). elim token [
 abbrev pub begins_limit : List ℕ → ℕ → Bool
 begins_limit text at = begins text "(*LIMIT_MATCH=" at
 
--- The start items go on past one of them, and end at any other token. Of faults that of a limit that isn't well written is
--- told, any other one by the reading from there.
+-- The start items go on past one of them, and end at any other token. Of faults that of a limit that isn't well written
+-- is told, any other one by the reading from there.
 abbrev pub started_by : List ℕ → State → (State → Result State Fault) → Reads Token → Result State Fault
 started_by text st again (Ok (Start item, after)) = again (record after { options = with_item item st.options })
 started_by text st again (Ok (token, after)) = Ok st
@@ -129,11 +137,41 @@ started text zero st = fault 0 0
 started text (suc n) st = started_by text st (started text n) (next text false st)
 
 abbrev pub start : Options → State
-start options = record { at = 0; quoting = false; options = options; groups = 0; depth = 0; looking = false; bars = Free; numbering = Onward; classes = []; names = []; verb_names = []; references = []; beyond = None; called = None }
+start options = record {
+  at = 0;
+  quoting = false;
+  options = options;
+  groups = 0;
+  depth = 0;
+  looking = false;
+  bars = Free;
+  numbering = Onward;
+  classes = [];
+  names = [];
+  verb_names = [];
+  references = [];
+  beyond = None;
+  called = None;
+}
 
 -- the state in which the reading begins, after the start items
 abbrev pub state_from : ℕ → Options → State
-state_from at options = record { at = at; quoting = false; options = options; groups = 0; depth = 0; looking = false; bars = Free; numbering = Onward; classes = []; names = []; verb_names = []; references = []; beyond = None; called = None }
+state_from at options = record {
+  at = at;
+  quoting = false;
+  options = options;
+  groups = 0;
+  depth = 0;
+  looking = false;
+  bars = Free;
+  numbering = Onward;
+  classes = [];
+  names = [];
+  verb_names = [];
+  references = [];
+  beyond = None;
+  called = None;
+}
 
 -- the tree from a state on and the last state, where these are the names of the whole pattern
 unfoldable pub reading : Known → List ℕ → State → Reads Nested
@@ -197,12 +235,19 @@ literally options text = record {
   places = [];
 }
 
--- No test may ask for a call of a group whose number is too big, and the references and calls of what was read must name groups.
+-- No test may ask for a call of a group whose number is too big, and the references and calls of what was read must
+-- name groups.
 abbrev pub checked : Options → Option ℕ → Option ℕ → Nested → State → Result Parsed Fault
 checked options (Some beyond) bad tree last = fault 161 beyond
 checked options None (Some at) tree last = fault 115 at
 checked options None None tree last = Ok (record {
-  pattern = record { options = options; tree = tree; groups = last.groups; classes = last.classes; verb_names = last.verb_names };
+  pattern = record {
+    options = options;
+    tree = tree;
+    groups = last.groups;
+    classes = last.classes;
+    verb_names = last.verb_names;
+  };
   names = last.names;
   places = map (λ r. r.at) last.references;
 })
@@ -214,18 +259,20 @@ read_from calling text st = do
   (tree, last) ← reading (record { names = named.names; calling = calling }) text st
   checked st.options last.beyond (missing last.groups last.references) tree last
 
--- in UTF the text must be UTF-8: fault -3 at the end of its longest part that is (pcre2unicode, "Validity of UTF strings")
+-- in UTF the text must be UTF-8: fault -3 at the end of its longest part that is (pcre2unicode, "Validity of UTF
+-- strings")
 abbrev pub in_utf8 : Bool → List ℕ → Result Parsed Fault → Result Parsed Fault
 in_utf8 utf text r =
     if utf && not (is_utf8 text) then Err (record { number = negsuc 2; at = utf8_valid_len text }) else r
 
--- First the size is tested, then the start items are read, then UTF-8 is tested; then the first fault from the left is told,
--- and last the leftmost reference to no group.
+-- First the size is tested, then the start items are read, then UTF-8 is tested; then the first fault from the left is
+-- told, and last the leftmost reference to no group.
 unfoldable pub read_with : Bool → Options → List ℕ → Result Parsed Fault
 read_with calling options text =
     if nat_lt 65536 (length text) then fault 120 0
     else if options.literal then in_utf8 options.utf text (Ok (literally options text))
-    else (started text (length text + 1) (start options) >>= λ st. in_utf8 st.options.utf text (read_from calling text st))
+    else (started text (length text + 1) (start options) >>= λ st. in_utf8 st.options.utf text
+    (read_from calling text st))
 
 -- what a pattern is read as, with its callouts
 unfoldable pub read : Options → List ℕ → Result Parsed Fault

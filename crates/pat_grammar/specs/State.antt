@@ -17,7 +17,8 @@ pub record Known : Type 0 where
   pub names : List NameEntry
   pub calling : Bool
 
--- a reference, a call, a lookaround or a condition: its place, and the groups that it names, which are none for a lookaround
+-- a reference, a call, a lookaround or a condition: its place, and the groups that it names, which are none for a
+-- lookaround
 pub record Reference : Type 0 where
   pub at : ℕ
   pub groups : List ℕ
@@ -70,7 +71,8 @@ flags_of in_class st = record {
 
 -- the token at the place, in a class or outside, and the state after it
 unfoldable pub next : List ℕ → Bool → State → Reads Token
-next text in_class st = token_at text (flags_of in_class st) st.at >>= λ (token, after). Ok (token, record st { at = after })
+next text in_class st = token_at text (flags_of in_class st) st.at >>= λ (token, after). Ok
+    (token, record st { at = after })
 
 -- Comments, ignored white space, `\Q` and `\E` stand for nothing themselves; the state after the token is given.
 abbrev pub passed_over : Token → State → Option State

@@ -2,9 +2,12 @@
 ghost use Rattle.std.specs.Prelude.{◌≡◌, Bool, false, true, ◌<◌, ◌≤◌, [], length, suc, Ok, Err, IfOk, IfErr, IfSome};
 ghost use Rattle.std.specs.Option.{option_map_or};
 ghost use Rattle.token_parts.specs.Tell.{IsWell, Moves};
-ghost use Rattle.pat_grammar.specs.Classes.{character, is_hyphen, is_last, is_last_item, part_then, class_parts, class_spec};
+ghost use Rattle.pat_grammar.specs.Classes.{character, is_hyphen, is_last, is_last_item, part_then, class_parts};
+ghost use Rattle.pat_grammar.specs.Classes.{class_spec};
 ghost use Rattle.pat_grammar.specs.State.{item};
-ghost use Rattle.pat_grammar.specs.Places.{Always, AlwaysFromStart, GivesPart, GivesFault, range_between, character_between, set_before, item_between, is_closing, Tells, IfBad, IsClassFault};
+ghost use Rattle.pat_grammar.specs.Places.{Always, AlwaysFromStart, GivesPart, GivesFault, range_between};
+ghost use Rattle.pat_grammar.specs.Places.{character_between, set_before, item_between, is_closing, Tells, IfBad};
+ghost use Rattle.pat_grammar.specs.Places.{IsClassFault};
 
 use crate::cursor::{Cursor, Place, Spot};
 use crate::error::ReadError;
@@ -40,8 +43,8 @@ fn is_last(token: Token) -> bool
 }
 
 impl<'a> Cursor<'a> {
-    /// What a character at `here` and a hyphen begin, the hyphen being between two places: with a character after it a range.
-    /// The hyphen is a character where it is last, and may not stand before a set.
+    /// What a character at `here` and a hyphen begin, the hyphen being between two places: with a character after it a
+    /// range. The hyphen is a character where it is last, and may not stand before a set.
     fn range_or_hyphen(
         &self,
         c: u32,
@@ -188,8 +191,8 @@ impl<'a> Cursor<'a> {
         }
     }
 
-    /// The part that begins at a place of a class, and the place after it; no part where the class is closed, and the place
-    /// after the bracket.
+    /// The part that begins at a place of a class, and the place after it; no part where the class is closed, and the
+    /// place after the bracket.
     fn step(&self, first: bool, place: Place) -> Result<(Option<Part>, Place), Fault>
         requires { place.at ≤ length self.now.text.now }
         ensures step { IfOk result
@@ -245,9 +248,9 @@ impl<'a> Cursor<'a> {
 }
 
 /// A class from the place after its opening bracket on, which is the cursor's, and the place after the closing one. A
-/// closing bracket that comes first is a character, unless ALLOW_EMPTY_CLASS is set. Of faults the first from the left is
-/// told: 106 at the text's end where the class isn't closed, 108 at the first character of a range that is out of order,
-/// 147 at a property of an unknown name, 150 at a hyphen beside a set, and the faults of the tokens.
+/// closing bracket that comes first is a character, unless ALLOW_EMPTY_CLASS is set. Of faults the first from the left
+/// is told: 106 at the text's end where the class isn't closed, 108 at the first character of a range that is out of
+/// order, 147 at a property of an unknown name, 150 at a hyphen beside a set, and the faults of the tokens.
 pub fn read_class(
     alloc: Global,
     cursor: &Cursor,
@@ -255,8 +258,9 @@ pub fn read_class(
 ) -> Result<(ClassSpec, Place), ReadError>
     requires { cursor.now.place.at ≤ length cursor.now.text.now }
 
-    // The class and the place after it, or the fault, are those of the definition: from every state of the reader at the
-    // cursor, and for every bound of at least two more than the bytes that are left. The rest of the state stays as it was.
+    // The class and the place after it, or the fault, are those of the definition: from every state of the reader at
+    // the cursor, and for every bound of at least two more than the bytes that are left. The rest of the state stays as
+    // it was.
     ensures class { IfOk result
         (λ r. AlwaysFromStart cursor.now cursor.now.place
         (λ text n state. class_spec text n negated (state cursor.now.place)

@@ -39,7 +39,8 @@ pub struct Called {
     pub text_to: u32,
 }
 
-/// Whether an automatic callout may stand before a token: it begins an item, which is no callout, or ends an alternative.
+/// Whether an automatic callout may stand before a token: it begins an item, which is no callout, or ends an
+/// alternative.
 pub fn is_item(token: Token) -> bool
     ensures { result ≡ is_item token }
 {

@@ -52,8 +52,8 @@ pub struct Cursor<'a> {
 }
 
 impl Place {
-    /// Where reading goes on after a token that stands for nothing itself, which ended here: a comment, ignored white space,
-    /// `\Q` or `\E`.
+    /// Where reading goes on after a token that stands for nothing itself, which ended here: a comment, ignored white
+    /// space, `\Q` or `\E`.
     pub(crate) fn passed_over(self, token: Token) -> Option<Place>
         ensures value { (st : State) → passed_over token (moved_to st self)
             ≡ option_map (moved_to st) result }
@@ -104,8 +104,8 @@ impl<'a> Cursor<'a> {
         }
     }
 
-    /// The token at a place, in a class or outside, and where the text goes on after it; or the fault of that token alone.
-    /// Takes no memory.
+    /// The token at a place, in a class or outside, and where the text goes on after it; or the fault of that token
+    /// alone. Takes no memory.
     pub fn next(&self, place: Place, in_class: bool) -> Result<(Token, usize), Fault>
         requires { place.at ≤ length self.now.text.now }
 
@@ -113,7 +113,8 @@ impl<'a> Cursor<'a> {
         ensures value { result ≡ token_at self.now.text.now
             (flags_at self.now in_class place) place.at }
 
-        // The end is a token exactly at the text's length. Every other token is followed by a later place within the text.
+        // The end is a token exactly at the text's length. Every other token is followed by a later place within the
+        // text.
         ensures moves { IfOk result (λ r. Moves self.now.text.now place.at r.0 r.1) }
         ensures well { IfOk result (λ r. IsWell self.now.text.now r.0) }
         ensures number { IfErr result (λ f. IsTrue (is_own f.number)) }

@@ -1,5 +1,6 @@
 -- What is kept of each node, one after the other, and rounds over groups.
-use Rattle.std.proofs.Common.{◌≡◌, ℕ, zero, suc, ◌<◌, ◌≤◌, List, [], ◌∷◌, ◌++◌, length, get_or, Option, All, inl, inr, refl, sym, subst, arith, length-append}
+use Rattle.std.proofs.Common.{◌≡◌, ℕ, zero, suc, ◌<◌, ◌≤◌, List, [], ◌∷◌, ◌++◌, length, get_or, Option, All, inl}
+use Rattle.std.proofs.Common.{inr, refl, sym, subst, arith, length-append}
 use Rattle.std.proofs.lemmas.Bool.{cases_lt}
 use Rattle.std.proofs.lemmas.List.{get_or_append_left, get_or_push}
 use Rattle.std.proofs.lemmas.List.Elements.{All-head, All-tail}
@@ -8,7 +9,8 @@ use Rattle.pat_tree.specs.declared.nodes.Cond.TheVariants.{AnySet, InCall, InCal
 use Rattle.pat_tree.specs.Rules.{tests_of, number_in}
 
 -- one more
-pub keep_more : {X : Type 0} (P : ℕ → X → Type 0) (xs : List X) (x d : X) → ((k : ℕ) → k < length xs → P k (get_or xs k d)) → P (length xs) x →
+pub keep_more : {X : Type 0} (P : ℕ → X → Type 0) (xs : List X) (x d : X)
+    → ((k : ℕ) → k < length xs → P k (get_or xs k d)) → P (length xs) x →
     (k : ℕ) → k < length (xs ++ x ∷ []) → P k (get_or (xs ++ x ∷ []) k d)
 keep_more P xs x d kept new k l = elim (cases_lt k (length xs)) [
   | inl h ↦ subst (P k) (sym (get_or_append_left xs (x ∷ []) d k h)) (kept k h)
@@ -33,7 +35,8 @@ pub one_kept : (P : ℕ → Type 0) (k n : ℕ) → ((k : ℕ) → k < n → P k
 one_kept P k n h below = h k (All-head (λ k. k < n) k [] below)
 
 -- what holds of all children of a condition holds of its branches
-pub branches_all : (P : ℕ → Type 0) (test : Cond) (first : ℕ) (second : Option ℕ) → All P (tests_of test ++ first ∷ number_in second) → All P (first ∷ number_in second)
+pub branches_all : (P : ℕ → Type 0) (test : Cond) (first : ℕ) (second : Option ℕ)
+    → All P (tests_of test ++ first ∷ number_in second) → All P (first ∷ number_in second)
 branches_all P (AnySet groups) first second h = h
 branches_all P InCall first second h = h
 branches_all P (InCallOf groups) first second h = h

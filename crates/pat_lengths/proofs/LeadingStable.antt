@@ -1,9 +1,12 @@
 -- Whether a group leads to another is known after as many calls and references as there are groups.
-use Rattle.std.proofs.Common.{◌≡◌, ◌∙◌, ℕ, zero, suc, ◌+◌, ◌-◌, ◌<◌, ◌≤◌, ◌||◌, ◌==◌, Bool, true, false, List, [], ◌∷◌, ◌++◌, ◌⊎◌, All, length, filter, is_some, Option, Some, None, if◌then◌else◌, inl, inr, refl, sym, ap, subst, arith}
+use Rattle.std.proofs.Common.{◌≡◌, ◌∙◌, ℕ, zero, suc, ◌+◌, ◌-◌, ◌<◌, ◌≤◌, ◌||◌, ◌==◌, Bool, true, false, List, []}
+use Rattle.std.proofs.Common.{◌∷◌, ◌++◌, ◌⊎◌, All, length, filter, is_some, Option, Some, None, if◌then◌else◌, inl}
+use Rattle.std.proofs.Common.{inr, refl, sym, ap, subst, arith}
 use Rattle.std.proofs.Math.Path.{fun_ext}
 use Rattle.std.specs.List.{list_any, Contains}
 use Rattle.std.proofs.lemmas.Bool.{false≢true, eqb-true, or_cases, or_left, or_right}
-use Rattle.std.proofs.lemmas.List.Elements.{All-nil, All-cons, All-contains, Contains-append_left, Contains-append_right, Contains-push}
+use Rattle.std.proofs.lemmas.List.Elements.{All-nil, All-cons, All-contains, Contains-append_left}
+use Rattle.std.proofs.lemmas.List.Elements.{Contains-append_right, Contains-push}
 use Rattle.pat_tree.specs.Groups.{group_of, find_group}
 use Rattle.pat_tree.specs.Nested as tree
 use Rattle.pat_tree.specs.Nested.{Nested}
@@ -37,13 +40,16 @@ tally_most p (x ∷ xs) = let one = one_most (p x) in let rest = tally_most p xs
 
 tally_more : (p q : ℕ → Bool) → ((x : ℕ) → p x ≡ true → q x ≡ true) → (xs : List ℕ) → tally p xs ≤ tally q xs
 tally_more p q more [] = omega arith
-tally_more p q more (x ∷ xs) = let one = one_more (p x) (q x) (more x) in let rest = tally_more p q more xs in omega (arith, one, rest)
+tally_more p q more (x ∷ xs) = let one = one_more (p x) (q x) (more x) in let rest = tally_more p q more xs in
+    omega (arith, one, rest)
 
-compare : (p q : ℕ → Bool) → ((x : ℕ) → p x ≡ true → q x ≡ true) → (xs : List ℕ) → (tally p xs < tally q xs) ⊎ All (λ x. q x ≡ p x) xs
+compare : (p q : ℕ → Bool) → ((x : ℕ) → p x ≡ true → q x ≡ true) → (xs : List ℕ)
+    → (tally p xs < tally q xs) ⊎ All (λ x. q x ≡ p x) xs
 compare p q more [] = inr (All-nil (λ x. q x ≡ p x))
 compare p q more (x ∷ xs) = at (p x) refl (q x) refl (compare p q more xs)
   where
-    at : (a : Bool) → p x ≡ a → (b : Bool) → q x ≡ b → (tally p xs < tally q xs) ⊎ All (λ x. q x ≡ p x) xs → (tally p (x ∷ xs) < tally q (x ∷ xs)) ⊎ All (λ x. q x ≡ p x) (x ∷ xs)
+    at : (a : Bool) → p x ≡ a → (b : Bool) → q x ≡ b → (tally p xs < tally q xs) ⊎ All (λ x. q x ≡ p x) xs
+        → (tally p (x ∷ xs) < tally q (x ∷ xs)) ⊎ All (λ x. q x ≡ p x) (x ∷ xs)
     at true e false f r = absurd (false≢true (sym f ∙ more x e))
     at false e true f r =
         let none : one_if (p x) ≡ 0 = ap one_if e in
@@ -80,7 +86,8 @@ numbers_count (tree.group (Some m) us ∷ ts) = ap suc (numbers_count ts)
 numbers_count (tree.group None us ∷ ts) = numbers_count ts
 numbers_count (_ ∷ ts) = numbers_count ts
 
-pub any_more : (p q : ℕ → Bool) → ((x : ℕ) → p x ≡ true → q x ≡ true) → (ns : List ℕ) → list_any p ns ≡ true → list_any q ns ≡ true
+pub any_more : (p q : ℕ → Bool) → ((x : ℕ) → p x ≡ true → q x ≡ true) → (ns : List ℕ) → list_any p ns ≡ true
+    → list_any q ns ≡ true
 any_more p q more [] h = absurd (false≢true h)
 any_more p q more (x ∷ xs) h = elim (or_cases (p x) (list_any p xs) h) [
   | inl a ↦ or_left (q x) (list_any q xs) (more x a)
@@ -93,7 +100,8 @@ named_there n (tree.group (Some k) us ∷ ts) h = at (k == n) refl (λ l. named_
   where
     at : (b : Bool) → (k == n) ≡ b → (is_some (first_of n ts) ≡ true → Contains (numbers ts) n) →
         is_some (if b then Some (tree.group (Some k) us) else first_of n ts) ≡ true → Contains (k ∷ numbers ts) n
-    at true e later h = subst (λ x. Contains (x ∷ numbers ts) n) (sym (eqb-true k n e)) (Contains-append_left (n ∷ []) (numbers ts) n (Contains-push [] n))
+    at true e later h = subst (λ x. Contains (x ∷ numbers ts) n) (sym (eqb-true k n e))
+        (Contains-append_left (n ∷ []) (numbers ts) n (Contains-push [] n))
     at false e later h = Contains-append_right (k ∷ []) (numbers ts) n (later h)
 named_there n (tree.group None us ∷ ts) h = named_there n ts h
 named_there n (_ ∷ ts) h = named_there n ts h
@@ -131,7 +139,8 @@ module _ (whole : Nested) (m : ℕ) where
   stay d h (suc e) x n is =
       let same : x ≡ suc (e + d) = omega (arith, is) in
       ap (λ y. leads y n) same ∙ next (e + d) (names_of_group whole n)
-      ∙ ap (λ (f : ℕ → Bool). list_any (λ y. y == m || f y) (names_of_group whole n)) (fun_ext (λ y. stay d h e (e + d) y refl))
+      ∙ ap (λ (f : ℕ → Bool). list_any (λ y. y == m || f y) (names_of_group whole n))
+      (fun_ext (λ y. stay d h e (e + d) y refl))
       ∙ sym (next d (names_of_group whole n)) ∙ h n
 
   abbrev groups : List ℕ
@@ -142,10 +151,12 @@ module _ (whole : Nested) (m : ℕ) where
     where
       found : (o : Option Nested) → find_group n whole ≡ o → (find_group n whole ≡ None) ⊎ Contains groups n
       found None e = inl e
-      found (Some t) e = inr (Contains-append_right (0 ∷ []) (numbers (all_nodes whole)) n (named_there n (all_nodes whole) (ap is_some (first_is n whole ∙ e))))
+      found (Some t) e = inr (Contains-append_right (0 ∷ []) (numbers (all_nodes whole)) n
+          (named_there n (all_nodes whole) (ap is_some (first_is n whole ∙ e))))
 
       at : (b : Bool) → (n == 0) ≡ b → ((if b then Some whole else find_group n whole) ≡ None) ⊎ Contains groups n
-      at true e = inr (subst (λ x. Contains (x ∷ numbers (all_nodes whole)) n) (eqb-true n 0 e) (Contains-append_left (n ∷ []) (numbers (all_nodes whole)) n (Contains-push [] n)))
+      at true e = inr (subst (λ x. Contains (x ∷ numbers (all_nodes whole)) n) (eqb-true n 0 e)
+          (Contains-append_left (n ∷ []) (numbers (all_nodes whole)) n (Contains-push [] n)))
       at false e = found (find_group n whole) refl
 
   settled : (d : ℕ) → All (λ x. leads (suc d) x ≡ leads d x) groups → (n : ℕ) → leads (suc d) n ≡ leads d n
@@ -174,12 +185,14 @@ module _ (whole : Nested) (m : ℕ) where
     | inl s ↦
         let here : s.at + x ≡ x + s.at = omega arith in
         let long : suc (captures whole) ≡ (suc (captures whole) - s.at) + s.at = omega (arith, s.below) in
-        let told : leads s.at m ≡ true = sym (stay s.at s.same x (s.at + x) m here) ∙ many_on s.at x (s.at + x) m refl h in
+        let told : leads s.at m ≡ true = sym (stay s.at s.same x (s.at + x) m here)
+        ∙ many_on s.at x (s.at + x) m refl h in
         stay s.at s.same (suc (captures whole) - s.at) (suc (captures whole)) m long ∙ told
     | inr le ↦
         let count : length groups ≡ suc (captures whole) = ap suc (numbers_count (all_nodes whole)) in
         elim (there m) [
           | inl none ↦ absurd (false≢true (sym (lost whole m x m none) ∙ h))
-          | inr at ↦ All-contains (λ y. leads (suc (captures whole)) y ≡ true) groups m (full (leads (suc (captures whole))) groups (omega (arith, le, count))) at
+          | inr at ↦ All-contains (λ y. leads (suc (captures whole)) y ≡ true) groups m
+              (full (leads (suc (captures whole))) groups (omega (arith, le, count))) at
         ]
   ]

@@ -1,6 +1,8 @@
--- One call more inside one another than there are groups is enough for the least length: a length that needs more calls than a
--- shorter one has needs a group inside itself.
-use Rattle.std.proofs.Common.{◌≡◌, ◌≤◌, ◌<◌, ◌⊎◌, inl, inr, ◌∙◌, ℕ, zero, suc, ◌+◌, ◌||◌, ◌==◌, nat_eq, Bool, true, false, is_some, List, [], ◌∷◌, length, filter, Option, Some, None, refl, sym, ap, subst, arith}
+-- One call more inside one another than there are groups is enough for the least length: a length that needs more calls
+-- than a shorter one has needs a group inside itself.
+use Rattle.std.proofs.Common.{◌≡◌, ◌≤◌, ◌<◌, ◌⊎◌, inl, inr, ◌∙◌, ℕ, zero, suc, ◌+◌, ◌||◌, ◌==◌, nat_eq, Bool, true}
+use Rattle.std.proofs.Common.{false, is_some, List, [], ◌∷◌, length, filter, Option, Some, None, refl, sym, ap}
+use Rattle.std.proofs.Common.{subst, arith}
 use Rattle.std.specs.Cmp.{IsEquivalence}
 use Rattle.std.specs.List.{list_any}
 use Rattle.std.proofs.lemmas.Bool.{cases_lt}
@@ -14,7 +16,8 @@ use Rattle.node_flow.proofs.Members.{Once, in_or_not, same_or_other, true_false}
 use Rattle.node_flow.proofs.Places.{distinct, flipped}
 use Rattle.pat_lengths.specs.Nodes.{captures, is_capture, is_capture_of, has_shared_number, all_nodes}
 use Rattle.pat_lengths.specs.Lengths.{SomeLengths, least_lengths, by_calls}
-use Rattle.pat_lengths.specs.HasLength.{Sum, Turns, AnyOr, RefHas, HasLength, InTurn, OneOf, OfOther, OfTest, AreSomeLengths, OfFound, ByCalls, CanMatch, IsLeast}
+use Rattle.pat_lengths.specs.HasLength.{Sum, Turns, AnyOr, RefHas, HasLength, InTurn, OneOf, OfOther, OfTest}
+use Rattle.pat_lengths.specs.HasLength.{AreSomeLengths, OfFound, ByCalls, CanMatch, IsLeast}
 use Rattle.pat_lengths.specs.Passing.{capture_number}
 use Rattle.pat_lengths.proofs.GroupLemmas.{first_is, first_there}
 use Rattle.pat_lengths.proofs.LengthLaw.{by_calls_law, calls_bounds}
@@ -23,7 +26,8 @@ use Rattle.pat_lengths.proofs.LengthLaw.{by_calls_law, calls_bounds}
 abbrev Shorter : (ℕ → Type 0) → ℕ → Type 0
 Shorter P k = (j : ℕ) × (j ≤ k) × P j
 
--- Each length of a group is no less than another of it, or bad. So is each length of a tree, or one of a group inside it is bad.
+-- Each length of a group is no less than another of it, or bad. So is each length of a tree, or one of a group inside
+-- it is bad.
 module _ (Bad : ℕ → ℕ → Type 0) where
   abbrev Worse : ℕ → Type 0
   Worse k = (n : ℕ) × (i : ℕ) × (i ≤ k) × Bad n i
@@ -59,7 +63,8 @@ module _ (Bad : ℕ → ℕ → Type 0) where
     ref_out (n ∷ []) k h = any_out (unset || has_shared_number whole) (G n) (G' n) k (groups n k) h
     ref_out (n ∷ m ∷ ns) k h = same (λ j. Unit {0}) k tt
 
-    test_out : (test : Test) (P P' : ℕ → Type 0) (k : ℕ) → (P' k → Out P k) → OfTest unset whole G' test P' k → Out (OfTest unset whole G test P) k
+    test_out : (test : Test) (P P' : ℕ → Type 0) (k : ℕ) → (P' k → Out P k) → OfTest unset whole G' test P' k
+        → Out (OfTest unset whole G test P) k
     unfolding HasLength
     test_out tree.never P P' k f h = same (λ j. j ≡ 0) k h
     test_out (tree.any_set ns) P P' k f h = f h
@@ -78,16 +83,23 @@ module _ (Bad : ℕ → ℕ → Type 0) where
       tree_out (tree.seq ts) k h = row_out ts k h
       tree_out (tree.group number ts) k h = one_out ts k h
       tree_out (tree.repeat t low high lazily) k h =
-          mapped (Turns (HasLength unset whole G t) h.0) (HasLength unset whole G (tree.repeat t low high lazily)) k (λ j p. (h.0, h.1, p))
+          mapped (Turns (HasLength unset whole G t) h.0) (HasLength unset whole G (tree.repeat t low high lazily)) k
+          (λ j p. (h.0, h.1, p))
           (turned (HasLength unset whole G t) (HasLength unset whole G' t) (λ k p. tree_out t k p) h.0 k h.2)
-      tree_out (tree.one_repeat item low high lazily) k h = same (HasLength unset whole G (tree.one_repeat item low high lazily)) k h
+      tree_out (tree.one_repeat item low high lazily) k h =
+          same (HasLength unset whole G (tree.one_repeat item low high lazily)) k h
       tree_out (tree.atomic ts) k h = one_out ts k h
       tree_out (tree.look ahead positive once ts) k h = same (λ j. j ≡ 0) k h
       tree_out (tree.condition test first second) k h =
-          test_out test (λ i. HasLength unset whole G first i ⊎ OfOther unset whole G second i) (λ i. HasLength unset whole G' first i ⊎ OfOther unset whole G' second i) k
+          test_out test (λ i. HasLength unset whole G first i ⊎ OfOther unset whole G second i)
+          (λ i. HasLength unset whole G' first i ⊎ OfOther unset whole G' second i) k
           (elim [
-            | inl p ↦ mapped (HasLength unset whole G first) (λ i. HasLength unset whole G first i ⊎ OfOther unset whole G second i) k (λ j q. inl q) (tree_out first k p)
-            | inr p ↦ mapped (OfOther unset whole G second) (λ i. HasLength unset whole G first i ⊎ OfOther unset whole G second i) k (λ j q. inr q) (other_out second k p)
+            | inl p ↦ mapped (HasLength unset whole G first)
+                (λ i. HasLength unset whole G first i ⊎ OfOther unset whole G second i) k (λ j q. inl q)
+                (tree_out first k p)
+            | inr p ↦ mapped (OfOther unset whole G second)
+                (λ i. HasLength unset whole G first i ⊎ OfOther unset whole G second i) k (λ j q. inr q)
+                (other_out second k p)
           ])
           h
       tree_out (tree.call n) k h = groups n k h
@@ -99,18 +111,22 @@ module _ (Bad : ℕ → ℕ → Type 0) where
 
       row_out : (ts : Row) (k : ℕ) → InTurn unset whole G' ts k → Out (InTurn unset whole G ts) k
       row_out tree.none k h = same (λ j. j ≡ 0) k h
-      row_out (tree.more t ts) k h = joined (HasLength unset whole G t) (InTurn unset whole G ts) h.0 h.1 k h.4 (tree_out t h.0 h.2) (row_out ts h.1 h.3)
+      row_out (tree.more t ts) k h = joined (HasLength unset whole G t) (InTurn unset whole G ts) h.0 h.1 k h.4
+          (tree_out t h.0 h.2) (row_out ts h.1 h.3)
 
       one_out : (ts : Row) (k : ℕ) → OneOf unset whole G' ts k → Out (OneOf unset whole G ts) k
       one_out tree.none k h = absurd h
-      one_out (tree.more t ts) k (inl p) = mapped (HasLength unset whole G t) (OneOf unset whole G (tree.more t ts)) k (λ j q. inl q) (tree_out t k p)
-      one_out (tree.more t ts) k (inr p) = mapped (OneOf unset whole G ts) (OneOf unset whole G (tree.more t ts)) k (λ j q. inr q) (one_out ts k p)
+      one_out (tree.more t ts) k (inl p) = mapped (HasLength unset whole G t) (OneOf unset whole G (tree.more t ts)) k
+          (λ j q. inl q) (tree_out t k p)
+      one_out (tree.more t ts) k (inr p) = mapped (OneOf unset whole G ts) (OneOf unset whole G (tree.more t ts)) k
+          (λ j q. inr q) (one_out ts k p)
 
       other_out : (o : Other) (k : ℕ) → OfOther unset whole G' o k → Out (OfOther unset whole G o) k
       other_out tree.no_other k h = same (λ j. j ≡ 0) k h
       other_out (tree.other t) k h = tree_out t k h
 
-    found_out : (o : Option Nested) (k : ℕ) → OfFound (HasLength unset whole G') o k → Out (OfFound (HasLength unset whole G) o) k
+    found_out : (o : Option Nested) (k : ℕ) → OfFound (HasLength unset whole G') o k
+        → Out (OfFound (HasLength unset whole G) o) k
     found_out None k h = absurd h
     found_out (Some t) k h = tree_out t k h
 
@@ -139,10 +155,12 @@ number_count (t ∷ ts) = number_count ts
 number_in : (n : ℕ) (ts : List Nested) → is_in n (numbers ts) ≡ list_any (is_capture_of n) ts
 unfolding numbers
 number_in n [] = refl
-number_in n (t ∷ ts) = here (capture_number t) (number_in n ts) ∙ ap (λ b. b || list_any (is_capture_of n) ts) (sym (capture_of_is n t))
+number_in n (t ∷ ts) = here (capture_number t) (number_in n ts)
+    ∙ ap (λ b. b || list_any (is_capture_of n) ts) (sym (capture_of_is n t))
   where
     here : (o : Option ℕ) → is_in n (numbers ts) ≡ list_any (is_capture_of n) ts →
-        is_in n (elim o as (λ o. List ℕ) [ None ↦ numbers ts | Some m ↦ m ∷ numbers ts ]) ≡ (is_number n o || list_any (is_capture_of n) ts)
+        is_in n (elim o as (λ o. List ℕ) [ None ↦ numbers ts | Some m ↦ m ∷ numbers ts ])
+        ≡ (is_number n o || list_any (is_capture_of n) ts)
     here None h = h
     here (Some m) h = ap (λ b. m == n || b) h
 
@@ -176,7 +194,8 @@ equal_laws = record {
 -- a list without repetition of members of another is no longer
 fits : (xs ys : List ℕ) → Once xs → ((n : ℕ) → is_in n xs ≡ true → is_in n ys ≡ true) → length xs ≤ length ys
 fits xs ys once inside =
-    length-le_from_is_member equal_laws xs ys (distinct xs once) (λ q h. flipped q ys ∙ inside q (sym (flipped q xs) ∙ h))
+    length-le_from_is_member equal_laws xs ys (distinct xs once)
+    (λ q h. flipped q ys ∙ inside q (sym (flipped q xs) ∙ h))
 
 module _ (unset : Bool) (whole : Nested) where
   abbrev By : ℕ → ℕ → ℕ → Type 0
@@ -189,10 +208,11 @@ module _ (unset : Bool) (whole : Nested) where
   later : (d n k : ℕ) → By d n k → Shorter (By (suc d) n) k
   unfolding ByCalls
   later zero n k h = absurd h
-  later (suc d) n k h = elim (found_out (λ m i. ⊥) unset whole (By (suc d)) (By d) (λ m i p. inl (later d m i p)) (group_of whole n) k h) [
-    | inl s ↦ s
-    | inr w ↦ absurd w.3
-  ]
+  later (suc d) n k h = elim (found_out (λ m i. ⊥) unset whole (By (suc d)) (By d) (λ m i p. inl (later d m i p))
+      (group_of whole n) k h) [
+        | inl s ↦ s
+        | inr w ↦ absurd w.3
+      ]
 
   raised : (d e n k : ℕ) → d ≤ e → By d n k → Shorter (By e n) k
   raised d zero n k l h = let is : d ≡ zero = omega (arith, l) in (k, omega arith, subst (λ j. By j n k) is h)
@@ -213,7 +233,8 @@ module _ (unset : Bool) (whole : Nested) where
   decided : (d n k : ℕ) → By (suc d) n k → Shorter (By d n) k ⊎ New d n k
   decided d n k h = cases (by_calls unset whole d n) (by_calls_law unset whole d n)
     where
-      cases : (x : SomeLengths) → AreSomeLengths (ByCalls unset whole d n) x → Shorter (ByCalls unset whole d n) k ⊎ New d n k
+      cases : (x : SomeLengths) → AreSomeLengths (ByCalls unset whole d n) x
+          → Shorter (ByCalls unset whole d n) k ⊎ New d n k
       cases None law = inr (record { has = h; short = λ j p. absurd (law j p) })
       cases (Some a) law = elim (cases_lt k a.least) [
         | inl l ↦ inr (record { has = h; short = λ j p. let m = law.low j p in omega (arith, l, m) })
@@ -227,10 +248,11 @@ module _ (unset : Bool) (whole : Nested) where
   -- it is made of one like it with a call less
   stepped : (d n k : ℕ) → New (suc d) n k → (m : ℕ) × (i : ℕ) × (i ≤ k) × New d m i
   unfolding ByCalls
-  stepped d n k new = elim (found_out (New d) unset whole (By d) (By (suc d)) (λ m i p. or_worse d m i (decided d m i p)) (group_of whole n) k new.has) [
-    | inl s ↦ let l = s.1 in let m = new.short s.0 s.2 in absurd (omega (arith, l, m))
-    | inr w ↦ w
-  ]
+  stepped d n k new = elim (found_out (New d) unset whole (By d) (By (suc d))
+      (λ m i p. or_worse d m i (decided d m i p)) (group_of whole n) k new.has) [
+        | inl s ↦ let l = s.1 in let m = new.short s.0 s.2 in absurd (omega (arith, l, m))
+        | inr w ↦ w
+      ]
 
   -- of another group
   other_group : (d e n k i : ℕ) → New d n k → New e n i → e < d → i ≤ k → ⊥
@@ -295,7 +317,8 @@ module _ (unset : Bool) (whole : Nested) where
   few : (d n k : ℕ) → New d n k → d ≤ captures whole
   few d n k new =
       let c = chain d n k new in
-      let l = fits c.groups (all_numbers whole) c.once (λ m h. let r = c.each m h in stands whole m (there r.0 m r.1 r.4)) in
+      let l = fits c.groups (all_numbers whole) c.once (λ m h. let r = c.each m h in
+      stands whole m (there r.0 m r.1 r.4)) in
       let count = c.count in
       let all = number_count (all_nodes whole) in
       omega (arith, l, count, all)
@@ -312,15 +335,17 @@ module _ (unset : Bool) (whole : Nested) where
   ]
 
   enough_for : (t : Nested) (k : ℕ) → CanMatch unset whole t k → Shorter (HasLength unset whole (By most) t) k
-  enough_for t k h = elim (tree_out (λ m i. ⊥) unset whole (By most) (By h.0) (λ n i p. inl (enough h.0 n i p)) t k h.1) [
-    | inl s ↦ s
-    | inr w ↦ absurd w.3
-  ]
+  enough_for t k h = elim (tree_out (λ m i. ⊥) unset whole (By most) (By h.0) (λ n i p. inl (enough h.0 n i p)) t k
+      h.1) [
+        | inl s ↦ s
+        | inr w ↦ absurd w.3
+      ]
 
 pub least_of_all : (unset : Bool) (whole t : Nested) → IsLeast (CanMatch unset whole t) (least_lengths unset whole t)
 least_of_all unset whole t = bound (least_lengths unset whole t) (calls_bounds unset whole t)
   where
-    bound : (x : SomeLengths) → AreSomeLengths (HasLength unset whole (ByCalls unset whole (suc (captures whole))) t) x → IsLeast (CanMatch unset whole t) x
+    bound : (x : SomeLengths) → AreSomeLengths (HasLength unset whole (ByCalls unset whole (suc (captures whole))) t)
+        x → IsLeast (CanMatch unset whole t) x
     bound None law = λ k h. let s = enough_for unset whole t k h in law s.0 s.2
     bound (Some a) law = (
       (suc (captures whole), law.least),

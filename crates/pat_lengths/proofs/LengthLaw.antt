@@ -1,15 +1,21 @@
 -- The least and the greatest of the lengths that a tree can match.
-use Rattle.std.proofs.Common.{◌≡◌, ◌≤◌, ◌⊎◌, inl, inr, ℕ, zero, suc, ◌+◌, ◌*◌, Bool, true, false, List, [], ◌∷◌, Option, Some, None, refl, sym, subst, arith}
+use Rattle.std.proofs.Common.{◌≡◌, ◌≤◌, ◌⊎◌, inl, inr, ℕ, zero, suc, ◌+◌, ◌*◌, Bool, true, false, List, [], ◌∷◌}
+use Rattle.std.proofs.Common.{Option, Some, None, refl, sym, subst, arith}
 use Rattle.std.specs.List.{list_any}
 use Rattle.std.specs.Prelude.{◌<◌, nat_le, min, max, ◌||◌}
-use Rattle.std.proofs.Math.Nat.{min-eq_left, min-eq_right, max-eq_left, max-eq_right, min-le_left, min-le_right, le-max_left, le-max_right, mul-le-mul_left}
+use Rattle.std.proofs.Math.Nat.{min-eq_left, min-eq_right, max-eq_left, max-eq_right, min-le_left, min-le_right}
+use Rattle.std.proofs.Math.Nat.{le-max_left, le-max_right, mul-le-mul_left}
 use Rattle.std.proofs.lemmas.Bool.{cases_lt, leb-true, leb-false}
 use Rattle.pat_tree.specs.Nested as tree
 use Rattle.pat_tree.specs.Nested.{Nested, Row, Test, Other}
 use Rattle.pat_tree.specs.Groups.{group_of}
 use Rattle.pat_lengths.specs.Nodes.{captures, has_shared_number, nodes_outside_lookarounds, is_accept}
-use Rattle.pat_lengths.specs.Lengths.{Lengths, SomeLengths, between, only, any_length, both, in_turn, either, most_in_turns, in_some_turns, in_turns, of_ref, lengths, lengths_in_turn, lengths_of_one, lengths_of_other, of_test, lengths_of_group, by_calls, leads_back, behind, least_lengths, branch_lengths}
-use Rattle.pat_lengths.specs.HasLength.{Within, Sum, Turns, AnyOr, RefHas, HasLength, InTurn, OneOf, OfOther, OfTest, IsMost, AreLengths, AreSomeLengths, OfFound, ByCalls, Behind, BranchHas}
+use Rattle.pat_lengths.specs.Lengths.{Lengths, SomeLengths, between, only, any_length, both, in_turn, either}
+use Rattle.pat_lengths.specs.Lengths.{most_in_turns, in_some_turns, in_turns, of_ref, lengths, lengths_in_turn}
+use Rattle.pat_lengths.specs.Lengths.{lengths_of_one, lengths_of_other, of_test, lengths_of_group, by_calls}
+use Rattle.pat_lengths.specs.Lengths.{leads_back, behind, least_lengths, branch_lengths}
+use Rattle.pat_lengths.specs.HasLength.{Within, Sum, Turns, AnyOr, RefHas, HasLength, InTurn, OneOf, OfOther, OfTest}
+use Rattle.pat_lengths.specs.HasLength.{IsMost, AreLengths, AreSomeLengths, OfFound, ByCalls, Behind, BranchHas}
 
 just : (c : ℕ) → AreSomeLengths (λ k. k ≡ c) (only c)
 just c = record { least = refl; low = λ k e. omega (arith, e); most = (refl, λ k e. omega (arith, e)) }
@@ -19,7 +25,8 @@ anything = record { least = tt; low = λ k u. omega arith; most = λ m. (m, omeg
 
 -- One after the other.
 
-sum_most : (P Q : ℕ → Type 0) (a b : Lengths) → AreLengths P a → AreLengths Q b → (x y : Option ℕ) → IsMost P x → IsMost Q y →
+sum_most : (P Q : ℕ → Type 0) (a b : Lengths) → AreLengths P a → AreLengths Q b → (x y : Option ℕ) → IsMost P x
+    → IsMost Q y →
     IsMost (Sum P Q) (both ◌+◌ x y)
 sum_most P Q a b p q (Some x) (Some y) m n =
     ((x, y, m.0, n.0, refl), λ k h. let i = m.1 h.0 h.2 in let j = n.1 h.1 h.3 in let e = h.4 in omega (arith, e))
@@ -28,7 +35,8 @@ sum_most P Q a b p q None y m n =
 sum_most P Q a b p q (Some x) None m n =
     λ k. let h = n k in (a.least + h.0, omega (arith, h.1), (a.least, h.0, p.least, h.2, refl))
 
-sums : (P Q : ℕ → Type 0) (x y : SomeLengths) → AreSomeLengths P x → AreSomeLengths Q y → AreSomeLengths (Sum P Q) (in_turn x y)
+sums : (P Q : ℕ → Type 0) (x y : SomeLengths) → AreSomeLengths P x → AreSomeLengths Q y
+    → AreSomeLengths (Sum P Q) (in_turn x y)
 sums P Q (Some a) (Some b) p q = record {
   least = (a.least, b.least, p.least, q.least, refl);
   low = λ k h. let i = p.low h.0 h.2 in let j = q.low h.1 h.3 in let e = h.4 in omega (arith, e);
@@ -40,11 +48,13 @@ sums P Q (Some a) None p q = λ k h. q h.1 h.3
 -- One or the other.
 
 least_of : (P Q : ℕ → Type 0) (i j : ℕ) → P i → Q j → (i < j) ⊎ (j ≤ i) → P (min i j) ⊎ Q (min i j)
-least_of P Q i j p q (inl h) = let l : i ≤ j = omega (arith, h) in let e : i ≡ min i j = sym (min-eq_left l) in inl (subst P e p)
+least_of P Q i j p q (inl h) = let l : i ≤ j = omega (arith, h) in let e : i ≡ min i j = sym (min-eq_left l) in
+    inl (subst P e p)
 least_of P Q i j p q (inr h) = let e : j ≡ min i j = sym (min-eq_right h) in inr (subst Q e q)
 
 greatest_of : (P Q : ℕ → Type 0) (i j : ℕ) → P i → Q j → (i < j) ⊎ (j ≤ i) → P (max i j) ⊎ Q (max i j)
-greatest_of P Q i j p q (inl h) = let l : i ≤ j = omega (arith, h) in let e : j ≡ max i j = sym (max-eq_right l) in inr (subst Q e q)
+greatest_of P Q i j p q (inl h) = let l : i ≤ j = omega (arith, h) in let e : j ≡ max i j = sym (max-eq_right l) in
+    inr (subst Q e q)
 greatest_of P Q i j p q (inr h) = let e : i ≡ max i j = sym (max-eq_left h) in inl (subst P e p)
 
 either_most : (P Q : ℕ → Type 0) (x y : Option ℕ) → IsMost P x → IsMost Q y → IsMost (λ k. P k ⊎ Q k) (both max x y)
@@ -150,7 +160,8 @@ one_more P a p n k h = (k, n * a.least, h, turns_of P a.least p.least n, refl)
 repeated_most : (P : ℕ → Type 0) (a : Lengths) → AreLengths P a → (low : ℕ) (high : Option ℕ) → Meets low high →
     (x : Option ℕ) → IsMost P x → IsMost (Repeated P low high) (most_in_turns high x)
 repeated_most P a p low (Some zero) m None x = ((0, (m, omega arith), no_turns P), λ k r. few_turns P r.0 k r.1.1 r.2)
-repeated_most P a p low (Some zero) m (Some b) x = ((0, (m, omega arith), no_turns P), λ k r. few_turns P r.0 k r.1.1 r.2)
+repeated_most P a p low (Some zero) m (Some b) x =
+    ((0, (m, omega arith), no_turns P), λ k r. few_turns P r.0 k r.1.1 r.2)
 repeated_most P a p low None m (Some zero) x =
     ((low, omega arith, empty_turns P x.0 low), λ k r. let l = turns_high P 0 x.1 r.0 k r.2 in omega (arith, l))
 repeated_most P a p low (Some (suc h)) m (Some zero) x =
@@ -185,7 +196,8 @@ repeated_some P low high m (Some a) p = record {
   most = repeated_most P a p low high m a.most p.most;
 }
 
-repeated_up_to : (P : ℕ → Type 0) (low high : ℕ) (x : SomeLengths) → AreSomeLengths P x → (b : Bool) → nat_le low high ≡ b →
+repeated_up_to : (P : ℕ → Type 0) (low high : ℕ) (x : SomeLengths) → AreSomeLengths P x → (b : Bool)
+    → nat_le low high ≡ b →
     AreSomeLengths (Repeated P low (Some high)) (elim b [ true ↦ in_some_turns low (Some high) x | false ↦ None ])
 repeated_up_to P low high x p true e = repeated_some P low (Some high) (leb-true low high e) x p
 repeated_up_to P low high x p false e = λ k r.
@@ -228,7 +240,8 @@ module _ (unset_matches : Bool) (whole : Nested) (OfGroup : ℕ → ℕ → Type
   mutual
     unfolding HasLength lengths
 
-    trees : (t : Nested) → AreSomeLengths (HasLength unset_matches whole OfGroup t) (lengths unset_matches whole of_group t)
+    trees : (t : Nested) → AreSomeLengths (HasLength unset_matches whole OfGroup t)
+        (lengths unset_matches whole of_group t)
     trees tree.empty = just 0
     trees (tree.one item) = just 1
     trees tree.line_break = one_or_two
@@ -246,19 +259,23 @@ module _ (unset_matches : Bool) (whole : Nested) (OfGroup : ℕ → ℕ → Type
     trees (tree.verb v) = just 0
     trees (tree.callout c) = just 0
 
-    rows : (ts : Row) → AreSomeLengths (InTurn unset_matches whole OfGroup ts) (lengths_in_turn unset_matches whole of_group ts)
+    rows : (ts : Row) → AreSomeLengths (InTurn unset_matches whole OfGroup ts)
+        (lengths_in_turn unset_matches whole of_group ts)
     rows tree.none = just 0
     rows (tree.more t ts) = sums _ _ _ _ (trees t) (rows ts)
 
-    branches : (ts : Row) → AreSomeLengths (OneOf unset_matches whole OfGroup ts) (lengths_of_one unset_matches whole of_group ts)
+    branches : (ts : Row) → AreSomeLengths (OneOf unset_matches whole OfGroup ts)
+        (lengths_of_one unset_matches whole of_group ts)
     branches tree.none = λ k h. h
     branches (tree.more t ts) = unions _ _ _ _ (trees t) (branches ts)
 
-    others : (o : Other) → AreSomeLengths (OfOther unset_matches whole OfGroup o) (lengths_of_other unset_matches whole of_group o)
+    others : (o : Other) → AreSomeLengths (OfOther unset_matches whole OfGroup o)
+        (lengths_of_other unset_matches whole of_group o)
     others tree.no_other = just 0
     others (tree.other t) = trees t
 
-found : (P : Nested → ℕ → Type 0) (f : Nested → SomeLengths) → ((t : Nested) → AreSomeLengths (P t) (f t)) → (o : Option Nested) →
+found : (P : Nested → ℕ → Type 0) (f : Nested → SomeLengths) → ((t : Nested) → AreSomeLengths (P t) (f t))
+    → (o : Option Nested) →
     AreSomeLengths (OfFound P o) (lengths_of_group f o)
 found P f h None = λ k e. e
 found P f h (Some t) = h t
@@ -276,10 +293,13 @@ module _ (unset_matches : Bool) (whole : Nested) where
       any_or (leads_back whole n) _ _ (found _ _ (trees unset_matches whole _ _ (behind_law d)) (group_of whole n))
 
 module _ (unset_matches : Bool) (whole : Nested) where
-  pub calls_bounds : (t : Nested) → AreSomeLengths (HasLength unset_matches whole (ByCalls unset_matches whole (suc (captures whole))) t) (least_lengths unset_matches whole t)
+  pub calls_bounds : (t : Nested)
+      → AreSomeLengths (HasLength unset_matches whole (ByCalls unset_matches whole (suc (captures whole))) t)
+      (least_lengths unset_matches whole t)
   calls_bounds t = trees unset_matches whole _ _ (by_calls_law unset_matches whole (suc (captures whole))) t
 
-  pub branch_bounds : (t : Nested) → AreSomeLengths (BranchHas unset_matches whole t) (branch_lengths unset_matches whole t)
+  pub branch_bounds : (t : Nested) → AreSomeLengths (BranchHas unset_matches whole t)
+      (branch_lengths unset_matches whole t)
   branch_bounds t =
       any_or (list_any is_accept (nodes_outside_lookarounds t)) _ _
       (trees unset_matches whole _ _ (behind_law unset_matches whole (suc (captures whole))) t)

@@ -1,5 +1,7 @@
 -- The nodes of a tree in the order of its parts' numbers.
-use Rattle.std.proofs.Common.{◌≡◌, ◌∙◌, ℕ, zero, suc, ◌<◌, ◌≤◌, Bool, true, false, ◌||◌, List, [], ◌∷◌, ◌++◌, map, flat_map, Option, Some, None, All, length, get_or, refl, sym, ap, arith, append_assoc, append-nil}
+use Rattle.std.proofs.Common.{◌≡◌, ◌∙◌, ℕ, zero, suc, ◌<◌, ◌≤◌, Bool, true, false, ◌||◌, List, [], ◌∷◌, ◌++◌, map}
+use Rattle.std.proofs.Common.{flat_map, Option, Some, None, All, length, get_or, refl, sym, ap, arith, append_assoc}
+use Rattle.std.proofs.Common.{append-nil}
 use Rattle.std.specs.List.{list_any}
 use Rattle.std.proofs.lemmas.Grind.{flat_map-append}
 use Rattle.std.proofs.lemmas.List.{get_or_default, map-append}
@@ -22,17 +24,20 @@ use Rattle.pat_lengths.specs.Nodes.{kept, nodes, nodes_in, nodes_of_test, nodes_
 
 -- What stands as a test is a lookaround, or a callout and a lookaround after it.
 pub by_test : (P : Nested → Type 0) → ((ahead positive once : Bool) (ts : Row) → P (tree.look ahead positive once ts)) →
-    ((c : Callout) (ahead positive once : Bool) (ts : Row) → P (tree.seq (tree.more (tree.callout c) (tree.more (tree.look ahead positive once ts) tree.none)))) →
+    ((c : Callout) (ahead positive once : Bool) (ts : Row)
+    → P (tree.seq (tree.more (tree.callout c) (tree.more (tree.look ahead positive once ts) tree.none)))) →
     (t : Nested) → is_test t ≡ true → P t
 by_test P f g (tree.look ahead positive once ts) h = f ahead positive once ts
-by_test P f g (tree.seq (tree.more (tree.callout c) (tree.more (tree.look ahead positive once ts) tree.none))) h = g c ahead positive once ts
+by_test P f g (tree.seq (tree.more (tree.callout c) (tree.more (tree.look ahead positive once ts) tree.none))) h =
+    g c ahead positive once ts
 by_test P f g t h = absurd cc
 
 -- the nodes of these trees, in turn
 abbrev pub nodes_at : Bool → List Nested → ℕ → List Nested
 nodes_at inside trees k = nodes inside (tree_at trees k)
 
-row_nodes : (inside : Bool) (trees : List Nested) (ks : List ℕ) → nodes_in inside (row (map (tree_at trees) ks)) ≡ flat_map (nodes_at inside trees) ks
+row_nodes : (inside : Bool) (trees : List Nested) (ks : List ℕ)
+    → nodes_in inside (row (map (tree_at trees) ks)) ≡ flat_map (nodes_at inside trees) ks
 unfolding nodes
 row_nodes inside trees [] = refl
 row_nodes inside trees (k ∷ ks) = ap (λ zs. nodes_at inside trees k ++ zs) (row_nodes inside trees ks)
@@ -43,19 +48,23 @@ tested_nodes inside t h =
     by_test (λ t. nodes_of_test inside (test_of t) ≡ nodes inside t) (λ ahead positive once ts. refl)
     (λ c ahead positive once ts.
     let look = tree.look ahead positive once ts in
-    ap (λ zs. tree.seq (tree.more (tree.callout c) (tree.more look tree.none)) ∷ tree.callout c ∷ look ∷ zs) (sym (append-nil (kept inside (nodes_in inside ts)))))
+    ap (λ zs. tree.seq (tree.more (tree.callout c) (tree.more look tree.none)) ∷ tree.callout c ∷ look ∷ zs)
+    (sym (append-nil (kept inside (nodes_in inside ts)))))
     t h
 
-test_nodes : (inside : Bool) (trees : List Nested) (test : Cond) → All (λ k. is_test (tree_at trees k) ≡ true) (tests_of test) →
+test_nodes : (inside : Bool) (trees : List Nested) (test : Cond)
+    → All (λ k. is_test (tree_at trees k) ≡ true) (tests_of test) →
     nodes_of_test inside (cond_of trees test) ≡ flat_map (nodes_at inside trees) (tests_of test)
 unfolding nodes
 test_nodes inside trees (AnySet groups) h = refl
 test_nodes inside trees InCall h = refl
 test_nodes inside trees (InCallOf groups) h = refl
 test_nodes inside trees Never h = refl
-test_nodes inside trees (Assert k) h = tested_nodes inside (tree_at trees k) (All-head (λ k. is_test (tree_at trees k) ≡ true) k [] h) ∙ sym (append-nil _)
+test_nodes inside trees (Assert k) h = tested_nodes inside (tree_at trees k)
+    (All-head (λ k. is_test (tree_at trees k) ≡ true) k [] h) ∙ sym (append-nil _)
 
-second_nodes : (inside : Bool) (trees : List Nested) (second : Option ℕ) → nodes_of_other inside (other_of trees second) ≡ flat_map (nodes_at inside trees) (number_in second)
+second_nodes : (inside : Bool) (trees : List Nested) (second : Option ℕ)
+    → nodes_of_other inside (other_of trees second) ≡ flat_map (nodes_at inside trees) (number_in second)
 unfolding nodes
 second_nodes inside trees None = refl
 second_nodes inside trees (Some k) = sym (append-nil _)
@@ -66,18 +75,23 @@ IsOpen false (node.Look ahead positive once branches) = ⊥
 IsOpen _ _ = Unit {0}
 
 -- a node, and then those under its children
-pub node_first : (inside : Bool) (trees : List Nested) (n : Node) → IsOpen inside n → All (λ k. is_test (tree_at trees k) ≡ true) (asserted_by n) →
+pub node_first : (inside : Bool) (trees : List Nested) (n : Node) → IsOpen inside n
+    → All (λ k. is_test (tree_at trees k) ≡ true) (asserted_by n) →
     nodes inside (nest trees n) ≡ nest trees n ∷ flat_map (nodes_at inside trees) (kids_of n)
 unfolding nodes
 node_first inside trees node.Empty o h = refl
 node_first inside trees (node.One item) o h = refl
 node_first inside trees node.Break o h = refl
 node_first inside trees (node.Seq kids) o h = ap (λ zs. nest trees (node.Seq kids) ∷ zs) (row_nodes inside trees kids)
-node_first inside trees (node.Group number branches) o h = ap (λ zs. nest trees (node.Group number branches) ∷ zs) (row_nodes inside trees branches)
-node_first inside trees (node.Repeat body min max lazy) o h = ap (λ zs. nest trees (node.Repeat body min max lazy) ∷ zs) (sym (append-nil _))
+node_first inside trees (node.Group number branches) o h =
+    ap (λ zs. nest trees (node.Group number branches) ∷ zs) (row_nodes inside trees branches)
+node_first inside trees (node.Repeat body min max lazy) o h =
+    ap (λ zs. nest trees (node.Repeat body min max lazy) ∷ zs) (sym (append-nil _))
 node_first inside trees (node.OneRepeat item min max lazy) o h = refl
-node_first inside trees (node.Atomic branches) o h = ap (λ zs. nest trees (node.Atomic branches) ∷ zs) (row_nodes inside trees branches)
-node_first true trees (node.Look ahead positive once branches) o h = ap (λ zs. nest trees (node.Look ahead positive once branches) ∷ zs) (row_nodes true trees branches)
+node_first inside trees (node.Atomic branches) o h =
+    ap (λ zs. nest trees (node.Atomic branches) ∷ zs) (row_nodes inside trees branches)
+node_first true trees (node.Look ahead positive once branches) o h =
+    ap (λ zs. nest trees (node.Look ahead positive once branches) ∷ zs) (row_nodes true trees branches)
 node_first false trees (node.Look ahead positive once branches) o h = absurd o
 node_first inside trees (node.Cond test first second) o h =
     let f = nodes_at inside trees in
@@ -98,14 +112,16 @@ node_first inside trees (node.Callout number from to at len) o h = refl
 
 -- The numbers in order stand for the nodes in order.
 
-map_flat : (f : ℕ → Nested) (g : ℕ → List ℕ) (h : ℕ → List Nested) (ks : List ℕ) → All (λ k. map f (g k) ≡ h k) ks → map f (flat_map g ks) ≡ flat_map h ks
+map_flat : (f : ℕ → Nested) (g : ℕ → List ℕ) (h : ℕ → List Nested) (ks : List ℕ) → All (λ k. map f (g k) ≡ h k) ks
+    → map f (flat_map g ks) ≡ flat_map h ks
 map_flat f g h [] e = refl
 map_flat f g h (k ∷ ks) e =
     map-append f (g k) (flat_map g ks)
     ∙ ap (λ zs. zs ++ map f (flat_map g ks)) (All-head (λ k. map f (g k) ≡ h k) k ks e)
     ∙ ap (λ zs. h k ++ zs) (map_flat f g h ks (All-tail (λ k. map f (g k) ≡ h k) k ks e))
 
-in_order : (t : TreeParts) → TreeRules t → (fuel q : ℕ) → q < fuel → q ≤ t.root → map (tree_at (trees t.nodes)) (order t.nodes q) ≡ all_nodes (tree_at (trees t.nodes) q)
+in_order : (t : TreeParts) → TreeRules t → (fuel q : ℕ) → q < fuel → q ≤ t.root
+    → map (tree_at (trees t.nodes)) (order t.nodes q) ≡ all_nodes (tree_at (trees t.nodes) q)
 in_order t rules zero q l m = absurd (omega (arith, l))
 in_order t rules (suc fuel) q l m =
     let ts = trees t.nodes in
@@ -123,12 +139,14 @@ in_order t rules (suc fuel) q l m =
     ∙ sym (node_first true ts p.node tt (rules.nodes.each q d inside).test)
     ∙ ap all_nodes r.0
 
-pub whole_in_order : (t : TreeParts) → TreeRules t → map (tree_at (trees t.nodes)) (order t.nodes t.root) ≡ all_nodes (tree_at (trees t.nodes) t.root)
+pub whole_in_order : (t : TreeParts) → TreeRules t → map (tree_at (trees t.nodes)) (order t.nodes t.root) ≡ all_nodes
+    (tree_at (trees t.nodes) t.root)
 whole_in_order t rules = in_order t rules (suc t.root) t.root (omega arith) (omega arith)
 
 -- What some node holds, by the children.
 
-pub any_flat : {X Y : Type 0} (p : Y → Bool) (f : X → List Y) (ks : List X) → list_any p (flat_map f ks) ≡ list_any (λ k. list_any p (f k)) ks
+pub any_flat : {X Y : Type 0} (p : Y → Bool) (f : X → List Y) (ks : List X)
+    → list_any p (flat_map f ks) ≡ list_any (λ k. list_any p (f k)) ks
 any_flat p f [] = refl
 any_flat p f (k ∷ ks) = list_any-append p (f k) (flat_map f ks) ∙ ap (λ b. list_any p (f k) || b) (any_flat p f ks)
 

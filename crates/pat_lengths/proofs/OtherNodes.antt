@@ -1,4 +1,5 @@
--- The kinds of nodes that are alike to what is told of a pattern: empty ones, lookarounds, anchors, `\K`, verbs and callouts.
+-- The kinds of nodes that are alike to what is told of a pattern: empty ones, lookarounds, anchors, `\K`, verbs and
+-- callouts.
 use Rattle.std.proofs.Common.{◌≡◌, ℕ, Bool, List, Option, refl}
 use Rattle.pat_tree.specs.declared.nodes.AnchorKind.{AnchorKind}
 use Rattle.pat_tree.specs.declared.nodes.Cond.{Cond}
@@ -28,15 +29,22 @@ by_other P empty look anchor keep verb callout node.Empty a b c d e f g h i j = 
 by_other P empty look anchor keep verb callout (node.One item) a b c d e f g h i j = absurd (a item refl)
 by_other P empty look anchor keep verb callout node.Break a b c d e f g h i j = absurd (b refl)
 by_other P empty look anchor keep verb callout (node.Seq kids) a b c d e f g h i j = absurd (c kids refl)
-by_other P empty look anchor keep verb callout (node.Group number branches) a b c d e f g h i j = absurd (d number branches refl)
-by_other P empty look anchor keep verb callout (node.Repeat body min max lazy) a b c d e f g h i j = absurd (e body min max lazy refl)
-by_other P empty look anchor keep verb callout (node.OneRepeat item min max lazy) a b c d e f g h i j = absurd (f item min max lazy refl)
+by_other P empty look anchor keep verb callout (node.Group number branches) a b c d e f g h i j =
+    absurd (d number branches refl)
+by_other P empty look anchor keep verb callout (node.Repeat body min max lazy) a b c d e f g h i j =
+    absurd (e body min max lazy refl)
+by_other P empty look anchor keep verb callout (node.OneRepeat item min max lazy) a b c d e f g h i j =
+    absurd (f item min max lazy refl)
 by_other P empty look anchor keep verb callout (node.Atomic branches) a b c d e f g h i j = absurd (g branches refl)
-by_other P empty look anchor keep verb callout (node.Look ahead positive once branches) a b c d e f g h i j = look ahead positive once branches
-by_other P empty look anchor keep verb callout (node.Cond test first second) a b c d e f g h i j = absurd (h test first second refl)
+by_other P empty look anchor keep verb callout (node.Look ahead positive once branches) a b c d e f g h i j =
+    look ahead positive once branches
+by_other P empty look anchor keep verb callout (node.Cond test first second) a b c d e f g h i j =
+    absurd (h test first second refl)
 by_other P empty look anchor keep verb callout (node.Call n) a b c d e f g h i j = absurd (i n refl)
-by_other P empty look anchor keep verb callout (node.Ref groups caseless) a b c d e f g h i j = absurd (j groups caseless refl)
+by_other P empty look anchor keep verb callout (node.Ref groups caseless) a b c d e f g h i j =
+    absurd (j groups caseless refl)
 by_other P empty look anchor keep verb callout (node.Anchor kind) a b c d e f g h i j = anchor kind
 by_other P empty look anchor keep verb callout node.KeepOut a b c d e f g h i j = keep
 by_other P empty look anchor keep verb callout (node.VerbNode v) a b c d e f g h i j = verb v
-by_other P empty look anchor keep verb callout (node.Callout number from to at len) a b c d e f g h i j = callout number from to at len
+by_other P empty look anchor keep verb callout (node.Callout number from to at len) a b c d e f g h i j =
+    callout number from to at len

@@ -1,10 +1,13 @@
 -- Which trees can match an empty text, by their least lengths.
-use Rattle.std.proofs.Common.{◌≡◌, ◌∙◌, ℕ, zero, suc, ◌+◌, ◌*◌, ◌||◌, ◌&&◌, ◌==◌, nat_le, min, Bool, true, false, List, [], ◌∷◌, Option, Some, None, refl, sym, ap, arith}
+use Rattle.std.proofs.Common.{◌≡◌, ◌∙◌, ℕ, zero, suc, ◌+◌, ◌*◌, ◌||◌, ◌&&◌, ◌==◌, nat_le, min, Bool, true, false}
+use Rattle.std.proofs.Common.{List, [], ◌∷◌, Option, Some, None, refl, sym, ap, arith}
 use Rattle.pat_tree.specs.Nested as tree
 use Rattle.pat_tree.specs.Nested.{Nested, Row, Test, Other}
 use Rattle.pat_lengths.specs.Nodes.{has_shared_number}
-use Rattle.pat_lengths.specs.Lengths.{SomeLengths, between, only, in_turn, either, in_some_turns, in_turns, of_ref, lengths, lengths_in_turn, lengths_of_one, lengths_of_other, of_test}
-use Rattle.pat_lengths.specs.Passing.{has_zero, is_at_most, ref_passes, passes, all_pass, some_passes, other_passes, test_passes}
+use Rattle.pat_lengths.specs.Lengths.{SomeLengths, between, only, in_turn, either, in_some_turns, in_turns, of_ref}
+use Rattle.pat_lengths.specs.Lengths.{lengths, lengths_in_turn, lengths_of_one, lengths_of_other, of_test}
+use Rattle.pat_lengths.specs.Passing.{has_zero, is_at_most, ref_passes, passes, all_pass, some_passes, other_passes}
+use Rattle.pat_lengths.specs.Passing.{test_passes}
 
 sum_zero : (a b : ℕ) → (a + b == 0) ≡ (a == 0 && b == 0)
 sum_zero a b = grind arith
@@ -39,17 +42,21 @@ suc_not n = grind arith
 no_times : (a : ℕ) → (0 * a == 0) ≡ true
 no_times a = grind arith
 
-zero_in_some : (low : ℕ) (high : Option ℕ) (x : SomeLengths) → has_zero (in_some_turns low high x) ≡ (low == 0 || has_zero x)
+zero_in_some : (low : ℕ) (high : Option ℕ) (x : SomeLengths)
+    → has_zero (in_some_turns low high x) ≡ (low == 0 || has_zero x)
 zero_in_some zero high None = refl
 zero_in_some (suc n) high None = rw (suc_not n) refl
 zero_in_some zero high (Some a) = no_times a.least
 zero_in_some (suc n) high (Some a) = times_zero n a.least ∙ sym (ap (λ b. b || a.least == 0) (suc_not n))
 
-zero_in_turns : (low : ℕ) (high : Option ℕ) (x : SomeLengths) → has_zero (in_turns low high x) ≡ (is_at_most low high && (low == 0 || has_zero x))
+zero_in_turns : (low : ℕ) (high : Option ℕ) (x : SomeLengths)
+    → has_zero (in_turns low high x) ≡ (is_at_most low high && (low == 0 || has_zero x))
 zero_in_turns low None x = zero_in_some low None x
 zero_in_turns low (Some high) x = within (nat_le low high)
   where
-    within : (b : Bool) → has_zero (elim b as (λ b. SomeLengths) [ true ↦ in_some_turns low (Some high) x | false ↦ None ]) ≡ (b && (low == 0 || has_zero x))
+    within : (b : Bool)
+        → has_zero (elim b as (λ b. SomeLengths) [ true ↦ in_some_turns low (Some high) x | false ↦ None ])
+        ≡ (b && (low == 0 || has_zero x))
     within true = zero_in_some low (Some high) x
     within false = refl
 
@@ -68,7 +75,8 @@ module _ (unset : Bool) (whole : Nested) (of_group : ℕ → SomeLengths) where
   zero_ref [] = refl
   zero_ref (n ∷ []) = one any
     where
-      one : (b : Bool) → has_zero (elim b as (λ b. SomeLengths) [ true ↦ between 0 None | false ↦ of_group n ]) ≡ (b || can n)
+      one : (b : Bool) → has_zero (elim b as (λ b. SomeLengths) [ true ↦ between 0 None | false ↦ of_group n ])
+          ≡ (b || can n)
       one true = refl
       one false = refl
   zero_ref (n ∷ m ∷ ns) = refl
@@ -82,12 +90,17 @@ module _ (unset : Bool) (whole : Nested) (of_group : ℕ → SomeLengths) where
     zero_is tree.line_break = refl
     zero_is (tree.seq ts) = zeros_in_turn ts
     zero_is (tree.group number ts) = zeros_of_one ts
-    zero_is (tree.repeat t low high lazily) = zero_in_turns low high (lengths unset whole of_group t) ∙ ap (λ b. is_at_most low high && (low == 0 || b)) (zero_is t)
-    zero_is (tree.one_repeat item low high lazily) = zero_in_turns low high (only 1) ∙ ap (λ b. is_at_most low high && b) (or_none (low == 0))
+    zero_is (tree.repeat t low high lazily) = zero_in_turns low high (lengths unset whole of_group t)
+        ∙ ap (λ b. is_at_most low high && (low == 0 || b)) (zero_is t)
+    zero_is (tree.one_repeat item low high lazily) = zero_in_turns low high (only 1)
+        ∙ ap (λ b. is_at_most low high && b) (or_none (low == 0))
     zero_is (tree.atomic ts) = zeros_of_one ts
     zero_is (tree.look ahead positive once ts) = refl
-    zero_is (tree.condition test first second) = zero_of_test test (either (lengths unset whole of_group first) (lengths_of_other unset whole of_group second)) _
-        (zero_either (lengths unset whole of_group first) (lengths_of_other unset whole of_group second) ∙ rw (zero_is first, zero_of_other second) refl)
+    zero_is (tree.condition test first second) =
+        zero_of_test test (either (lengths unset whole of_group first) (lengths_of_other unset whole of_group second))
+        _
+        (zero_either (lengths unset whole of_group first) (lengths_of_other unset whole of_group second)
+        ∙ rw (zero_is first, zero_of_other second) refl)
     zero_is (tree.call n) = refl
     zero_is (tree.ref ns caseless) = zero_ref ns
     zero_is (tree.anchor a) = refl
@@ -97,17 +110,20 @@ module _ (unset : Bool) (whole : Nested) (of_group : ℕ → SomeLengths) where
 
     zeros_in_turn : (ts : Row) → has_zero (lengths_in_turn unset whole of_group ts) ≡ all_pass any can ts
     zeros_in_turn tree.none = refl
-    zeros_in_turn (tree.more t ts) = zero_in_turn (lengths unset whole of_group t) (lengths_in_turn unset whole of_group ts) ∙ rw (zero_is t, zeros_in_turn ts) refl
+    zeros_in_turn (tree.more t ts) = zero_in_turn (lengths unset whole of_group t)
+        (lengths_in_turn unset whole of_group ts) ∙ rw (zero_is t, zeros_in_turn ts) refl
 
     zeros_of_one : (ts : Row) → has_zero (lengths_of_one unset whole of_group ts) ≡ some_passes any can ts
     zeros_of_one tree.none = refl
-    zeros_of_one (tree.more t ts) = zero_either (lengths unset whole of_group t) (lengths_of_one unset whole of_group ts) ∙ rw (zero_is t, zeros_of_one ts) refl
+    zeros_of_one (tree.more t ts) = zero_either (lengths unset whole of_group t)
+        (lengths_of_one unset whole of_group ts) ∙ rw (zero_is t, zeros_of_one ts) refl
 
     zero_of_other : (o : Other) → has_zero (lengths_of_other unset whole of_group o) ≡ other_passes any can o
     zero_of_other tree.no_other = refl
     zero_of_other (tree.other t) = zero_is t
 
-    zero_of_test : (test : Test) (x : SomeLengths) (b : Bool) → has_zero x ≡ b → has_zero (of_test unset whole of_group test x) ≡ test_passes any can test b
+    zero_of_test : (test : Test) (x : SomeLengths) (b : Bool) → has_zero x ≡ b
+        → has_zero (of_test unset whole of_group test x) ≡ test_passes any can test b
     zero_of_test tree.never x b h = refl
     zero_of_test (tree.any_set ns) x b h = h
     zero_of_test tree.in_call x b h = h

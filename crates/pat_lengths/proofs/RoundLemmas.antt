@@ -1,5 +1,6 @@
 -- What rounds over the groups come to.
-use Rattle.std.proofs.Common.{◌≡◌, ◌∙◌, ℕ, zero, suc, ◌+◌, ◌||◌, ◌&&◌, ◌==◌, Bool, true, false, List, [], ◌∷◌, ◌++◌, flat_map, length, Option, Some, None, refl, sym, ap, arith}
+use Rattle.std.proofs.Common.{◌≡◌, ◌∙◌, ℕ, zero, suc, ◌+◌, ◌||◌, ◌&&◌, ◌==◌, Bool, true, false, List, [], ◌∷◌, ◌++◌}
+use Rattle.std.proofs.Common.{flat_map, length, Option, Some, None, refl, sym, ap, arith}
 use Rattle.std.proofs.Math.Bool.{beq}
 use lib.Pointwise.{pointwise}
 use Rattle.std.proofs.Math.Path.{fun_ext}
@@ -16,13 +17,18 @@ use Rattle.pat_lengths.specs.declared.rounds.Question.{Question}
 use Rattle.pat_lengths.specs.declared.rounds.Question.TheVariants.{Passes, Names}
 use Rattle.pat_lengths.proofs.PassLemmas.{zero_is}
 
-passes_next : (unset : Bool) (whole : Nested) (d : ℕ) → ((n : ℕ) → rounds (Passes (unset || has_shared_number whole)) whole d n ≡ has_zero (by_calls unset whole d n)) →
-    (o : Option Nested) → group_answer (Passes (unset || has_shared_number whole)) (rounds (Passes (unset || has_shared_number whole)) whole d) o ≡ has_zero (lengths_of_group (lengths unset whole (by_calls unset whole d)) o)
+passes_next : (unset : Bool) (whole : Nested) (d : ℕ)
+    → ((n : ℕ) → rounds (Passes (unset || has_shared_number whole)) whole d n ≡ has_zero (by_calls unset whole d n)) →
+    (o : Option Nested) → group_answer (Passes (unset || has_shared_number whole))
+    (rounds (Passes (unset || has_shared_number whole)) whole d) o ≡ has_zero
+    (lengths_of_group (lengths unset whole (by_calls unset whole d)) o)
 passes_next unset whole d h None = refl
 passes_next unset whole d h (Some t) =
-    ap (λ f. passes (unset || has_shared_number whole) f t) (fun_ext h) ∙ sym (zero_is unset whole (by_calls unset whole d) t)
+    ap (λ f. passes (unset || has_shared_number whole) f t) (fun_ext h)
+    ∙ sym (zero_is unset whole (by_calls unset whole d) t)
 
-pub passes_rounds : (unset : Bool) (whole : Nested) (d n : ℕ) → rounds (Passes (unset || has_shared_number whole)) whole d n ≡ has_zero (by_calls unset whole d n)
+pub passes_rounds : (unset : Bool) (whole : Nested) (d n : ℕ)
+    → rounds (Passes (unset || has_shared_number whole)) whole d n ≡ has_zero (by_calls unset whole d n)
 unfolding rounds by_calls
 passes_rounds unset whole zero n = refl
 passes_rounds unset whole (suc d) n = passes_next unset whole d (passes_rounds unset whole d) (group_of whole n)
@@ -40,7 +46,8 @@ swapped false true true d = refl
 swapped false true false d = refl
 swapped false false c d = refl
 
-lead_append : (whole : Nested) (d m : ℕ) (xs ys : List ℕ) → lead_to whole d (xs ++ ys) m ≡ (lead_to whole d xs m || lead_to whole d ys m)
+lead_append : (whole : Nested) (d m : ℕ) (xs ys : List ℕ)
+    → lead_to whole d (xs ++ ys) m ≡ (lead_to whole d xs m || lead_to whole d ys m)
 unfolding lead_to
 lead_append whole zero m xs ys = refl
 lead_append whole (suc d) m xs ys =
@@ -50,7 +57,8 @@ lead_append whole (suc d) m xs ys =
     (swapped (list_any t xs) (list_any t ys) (lead_to whole d (flat_map f xs) m) (lead_to whole d (flat_map f ys) m))
 
 pub some_lead : (whole : Nested) (d m : ℕ) (ns : List ℕ) →
-    list_any (λ n. n == m || lead_to whole d (names_of_group whole n) m) ns ≡ (list_any (λ n. n == m) ns || lead_to whole d (flat_map (names_of_group whole) ns) m)
+    list_any (λ n. n == m || lead_to whole d (names_of_group whole n) m)
+    ns ≡ (list_any (λ n. n == m) ns || lead_to whole d (flat_map (names_of_group whole) ns) m)
 some_lead whole d m [] = sym (none_lead whole d m)
 some_lead whole d m (n ∷ ns) =
     let f = names_of_group whole in
@@ -68,7 +76,8 @@ nothing_named : (ns : List ℕ) → list_any (λ n. true) ns ≡ false → ns �
 nothing_named [] h = refl
 nothing_named (n ∷ ns) h = absurd cc
 
-pub leads_nowhere : (whole : Nested) (names : ℕ → Bool) (m d n : ℕ) → group_answer Names names (group_of whole n) ≡ false → lead_to whole d (names_of_group whole n) m ≡ false
+pub leads_nowhere : (whole : Nested) (names : ℕ → Bool) (m d n : ℕ)
+    → group_answer Names names (group_of whole n) ≡ false → lead_to whole d (names_of_group whole n) m ≡ false
 leads_nowhere whole names m d n h = by_group (group_of whole n) h
   where
     by_group : (o : Option Nested) → group_answer Names names o ≡ false → lead_to whole d (named_in_group o) m ≡ false
@@ -77,15 +86,20 @@ leads_nowhere whole names m d n h = by_group (group_of whole n) h
 
 -- One round over the groups' places.
 
-pub placed_answer : (q : Question) (trees : List Nested) (root : ℕ) (of answers : List Bool) (r : ℕ → Bool) (place : Option ℕ) (found : Option Nested) →
-    length answers ≡ root + 1 → KeepAnswers q of trees answers → ((n : ℕ) → flagged of n ≡ r n) → IsAt trees root place found →
+pub placed_answer : (q : Question) (trees : List Nested) (root : ℕ) (of answers : List Bool) (r : ℕ → Bool)
+    (place : Option ℕ) (found : Option Nested) →
+    length answers ≡ root + 1 → KeepAnswers q of trees answers → ((n : ℕ) → flagged of n ≡ r n)
+    → IsAt trees root place found →
     passes_at answers place ≡ group_answer q r found
 placed_answer q trees root of answers r None found count kept h at = sym (ap (group_answer q r) at)
 placed_answer q trees root of answers r (Some k) found count kept h at =
-    kept k (omega (arith, count, at.0)) ∙ ap (λ f. answer q f (tree_at trees k)) (fun_ext h) ∙ sym (ap (group_answer q r) at.1)
+    kept k (omega (arith, count, at.0)) ∙ ap (λ f. answer q f (tree_at trees k)) (fun_ext h)
+    ∙ sym (ap (group_answer q r) at.1)
 
-pub round_step : (q : Question) (whole : Nested) (trees : List Nested) (root d n : ℕ) (of answers : List Bool) (place : Option ℕ) →
-    length answers ≡ root + 1 → KeepAnswers q of trees answers → AreRounds q whole d of → IsAt trees root place (group_of whole n) →
+pub round_step : (q : Question) (whole : Nested) (trees : List Nested) (root d n : ℕ) (of answers : List Bool)
+    (place : Option ℕ) →
+    length answers ≡ root + 1 → KeepAnswers q of trees answers → AreRounds q whole d of
+    → IsAt trees root place (group_of whole n) →
     passes_at answers place ≡ rounds q whole (suc d) n
 unfolding rounds
 round_step q whole trees root d n of answers place count kept h at =

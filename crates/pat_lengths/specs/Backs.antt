@@ -1,6 +1,7 @@
 -- The branches of a pattern's lookbehinds: how far each begins before its place, and why a pattern is refused for them
 -- (pcre2pattern, "Lookbehind assertions").
-use Rattle.std.specs.Prelude.{◌≡◌, ◌≤◌, ℕ, ◌+◌, pos, true, false, max, List, [], ◌∷◌, length, Option, Some, None, slice_index_or}
+use Rattle.std.specs.Prelude.{◌≡◌, ◌≤◌, ℕ, ◌+◌, pos, true, false, max, List, [], ◌∷◌, length, Option, Some, None}
+use Rattle.std.specs.Prelude.{slice_index_or}
 use Rattle.std.specs.Option.{option_or}
 use Rattle.pat_tree.specs.declared.nodes.Node.{Node}
 use Rattle.pat_tree.specs.declared.nodes.Node.TheVariants as form
@@ -76,7 +77,8 @@ module _ (tree : TreeParts) where
   -- a list that has the length of each part up to the root that is not refused as a branch
   pub record AreBacks (backs : List ℕ) : Type 0 where
     pub count : length backs ≡ tree.root + 1
-    pub each : (k : ℕ) → k ≤ tree.root → branch_fault (lengths_at k) ≡ None → lengths_at k ≡ only (slice_index_or backs k 0)
+    pub each : (k : ℕ) → k ≤ tree.root → branch_fault (lengths_at k) ≡ None
+        → lengths_at k ≡ only (slice_index_or backs k 0)
 
   -- what is kept of each part up to the root is its lengths as a branch
   pub record AreBranches (spans : List (Option Span)) : Type 0 where

@@ -1,7 +1,10 @@
 -- The lengths that a tree can match, one by one.
 use Rattle.std.specs.List.{list_any}
-use Rattle.std.specs.Prelude.{◌≡◌, ◌≤◌, ℕ, zero, suc, ◌+◌, Bool, true, false, ◌||◌, ◌⊎◌, List, [], ◌∷◌, Option, Some, None}
-use Rattle.pat_tree.specs.Nested.{Nested, Row, Test, Other, empty, one, line_break, seq, group, repeat, one_repeat, atomic, look, condition, call, ref, anchor, keep_out, verb, callout, none, more, any_set, in_call, in_call_of, never, assert, called, no_other, other}
+use Rattle.std.specs.Prelude.{◌≡◌, ◌≤◌, ℕ, zero, suc, ◌+◌, Bool, true, false, ◌||◌, ◌⊎◌, List, [], ◌∷◌, Option, Some}
+use Rattle.std.specs.Prelude.{None}
+use Rattle.pat_tree.specs.Nested.{Nested, Row, Test, Other, empty, one, line_break, seq, group, repeat, one_repeat}
+use Rattle.pat_tree.specs.Nested.{atomic, look, condition, call, ref, anchor, keep_out, verb, callout, none, more}
+use Rattle.pat_tree.specs.Nested.{any_set, in_call, in_call_of, never, assert, called, no_other, other}
 use Rattle.pat_tree.specs.Groups.{group_of}
 use Rattle.pat_lengths.specs.Nodes.{captures, has_shared_number, nodes_outside_lookarounds, is_accept}
 use Rattle.pat_lengths.specs.Lengths.{Lengths, SomeLengths, least_lengths, leads_back, branch_lengths}
@@ -105,7 +108,8 @@ module _ (unset_matches : Bool) (whole : Nested) where
   -- a branch of a lookbehind can match k characters
   abbrev pub BranchHas : Nested → ℕ → Type 0
   BranchHas t k =
-      AnyOr (list_any is_accept (nodes_outside_lookarounds t)) (HasLength unset_matches whole (Behind (suc (captures whole))) t k)
+      AnyOr (list_any is_accept (nodes_outside_lookarounds t))
+      (HasLength unset_matches whole (Behind (suc (captures whole))) t k)
 
   -- the tree can match k characters, however many calls and references stand inside one another
   abbrev pub CanMatch : Nested → ℕ → Type 0
@@ -120,7 +124,8 @@ IsLeast P (Some a) = P a.least × ((k : ℕ) → P k → a.least ≤ k)
 pub record LengthLaws : Type 0 where
   pub by_calls :
       (unset_matches : Bool) (whole t : Nested)
-      → AreSomeLengths (HasLength unset_matches whole (ByCalls unset_matches whole (suc (captures whole))) t) (least_lengths unset_matches whole t)
+      → AreSomeLengths (HasLength unset_matches whole (ByCalls unset_matches whole (suc (captures whole))) t)
+      (least_lengths unset_matches whole t)
   pub of_branches :
       (unset_matches : Bool) (whole t : Nested)
       → AreSomeLengths (BranchHas unset_matches whole t) (branch_lengths unset_matches whole t)

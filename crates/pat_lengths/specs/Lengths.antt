@@ -1,9 +1,13 @@
 -- How many characters a tree can match (pcre2pattern, "Lookbehind assertions").
-use Rattle.std.specs.Prelude.{ℕ, zero, suc, ◌+◌, ◌*◌, Bool, true, false, ◌||◌, ◌==◌, nat_le, min, max, List, [], ◌∷◌, flat_map, Option, Some, None}
+use Rattle.std.specs.Prelude.{ℕ, zero, suc, ◌+◌, ◌*◌, Bool, true, false, ◌||◌, ◌==◌, nat_le, min, max, List, [], ◌∷◌}
+use Rattle.std.specs.Prelude.{flat_map, Option, Some, None}
 use Rattle.std.specs.List.{list_any}
-use Rattle.pat_tree.specs.Nested.{Nested, Row, Test, Other, empty, one, line_break, seq, group, repeat, one_repeat, atomic, look, condition, call, ref, anchor, keep_out, verb, callout, none, more, any_set, in_call, in_call_of, never, assert, called, no_other, other}
+use Rattle.pat_tree.specs.Nested.{Nested, Row, Test, Other, empty, one, line_break, seq, group, repeat, one_repeat}
+use Rattle.pat_tree.specs.Nested.{atomic, look, condition, call, ref, anchor, keep_out, verb, callout, none, more}
+use Rattle.pat_tree.specs.Nested.{any_set, in_call, in_call_of, never, assert, called, no_other, other}
 use Rattle.pat_tree.specs.Groups.{group_of}
-use Rattle.pat_lengths.specs.Nodes.{captures, has_shared_number, named_in, nodes_outside_lookarounds, is_accept, has_accept}
+use Rattle.pat_lengths.specs.Nodes.{captures, has_shared_number, named_in, nodes_outside_lookarounds, is_accept}
+use Rattle.pat_lengths.specs.Nodes.{has_accept}
 
 -- the least and the greatest length
 pub record Lengths : Type 0 where
@@ -115,7 +119,8 @@ module _ (unset_matches : Bool) (whole : Nested) where
   by_calls zero n = None
   by_calls (suc d) n = lengths_of_group (lengths unset_matches whole (by_calls d)) (group_of whole n)
 
-  -- A text that a tree can match needs no group inside itself to be shortest: as many calls as there are groups will do.
+  -- A text that a tree can match needs no group inside itself to be shortest: as many calls as there are groups will
+  -- do.
   abbrev pub least_lengths : Nested → SomeLengths
   least_lengths t = lengths unset_matches whole (by_calls (suc (captures whole))) t
 

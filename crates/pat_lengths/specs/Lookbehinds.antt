@@ -5,7 +5,9 @@ use Rattle.std.specs.Option.{option_or}
 use Rattle.pat_tree.specs.declared.nodes.Node.TheVariants as node
 use Rattle.pat_tree.specs.declared.nodes.Placed.{Placed}
 use Rattle.pat_tree.specs.Growing.{AllUnder}
-use Rattle.pat_tree.specs.Nested.{Nested, Row, Test, Other, empty, one, line_break, seq, group, repeat, one_repeat, atomic, look, condition, call, ref, anchor, keep_out, verb, callout, none, more, any_set, in_call, in_call_of, never, assert, called, no_other, other}
+use Rattle.pat_tree.specs.Nested.{Nested, Row, Test, Other, empty, one, line_break, seq, group, repeat, one_repeat}
+use Rattle.pat_tree.specs.Nested.{atomic, look, condition, call, ref, anchor, keep_out, verb, callout, none, more}
+use Rattle.pat_tree.specs.Nested.{any_set, in_call, in_call_of, never, assert, called, no_other, other}
 use Rattle.pat_tree.specs.Parts.{TreeParts, tree_of}
 use Rattle.pat_tree.specs.Sound.{TreeRules}
 use Rattle.pat_tree.specs.Closing.{StandInTurn}
@@ -56,7 +58,8 @@ unfoldable mutual
   found_in (atomic ts) places = found_in_row ts places
   found_in (look ahead positive once ts) places = looked ahead ts (found_in_row ts places)
   found_in (condition test first second) places =
-      and_then (and_then (and_then (found_in_test test places) (found_in first)) (found_in_other second)) (λ left. ([], others left))
+      and_then (and_then (and_then (found_in_test test places) (found_in first)) (found_in_other second))
+      (λ left. ([], others left))
   found_in (call n) places = ([], others places)
   found_in (ref ns caseless) places = ([], others places)
   found_in (anchor a) places = ([], places)
@@ -88,7 +91,8 @@ module _ (unset_matches : Bool) (whole : Nested) where
   -- the first of these branches that is refused, at the place of their lookbehind
   abbrev pub fault_of_branches : ℕ → Row → Option LengthFault
   fault_of_branches at none = None
-  fault_of_branches at (more t ts) = option_or (fault_from at (branch_fault (branch_lengths unset_matches whole t))) (fault_of_branches at ts)
+  fault_of_branches at (more t ts) = option_or (fault_from at (branch_fault (branch_lengths unset_matches whole t)))
+      (fault_of_branches at ts)
 
   -- the first of these lookbehinds
   abbrev pub first_refused : List Lookbehind → Option LengthFault
@@ -108,8 +112,9 @@ place_in p = elim (p.node) [
 abbrev pub places_of : List Placed → List ℕ
 places_of ps = flat_map place_in ps
 
--- Where the nodes of a tree stand in the order in which they end, the leftmost fault is that of the first lookbehind that
--- is refused.
+-- Where the nodes of a tree stand in the order in which they end, the leftmost fault is that of the first lookbehind
+-- that is refused.
 abbrev pub FirstRefusedLaw : Type 0
 FirstRefusedLaw = (tree : TreeParts) → TreeRules tree → StandInTurn tree.nodes → AllUnder tree.nodes tree.root →
-    first_fault tree ≡ first_refused tree.options.match_unset_backref (tree_of tree) (lookbehinds (tree_of tree) (places_of tree.nodes))
+    first_fault tree ≡ first_refused tree.options.match_unset_backref (tree_of tree)
+    (lookbehinds (tree_of tree) (places_of tree.nodes))

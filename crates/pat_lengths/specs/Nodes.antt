@@ -1,5 +1,6 @@
 -- The nodes of a nested tree.
-use Rattle.std.specs.Prelude.{ℕ, Bool, true, false, ◌||◌, not, ◌==◌, List, [], ◌∷◌, ◌++◌, length, filter, flat_map, slice_get, Option, Some, None}
+use Rattle.std.specs.Prelude.{ℕ, Bool, true, false, ◌||◌, not, ◌==◌, List, [], ◌∷◌, ◌++◌, length, filter, flat_map}
+use Rattle.std.specs.Prelude.{slice_get, Option, Some, None}
 use Rattle.std.specs.List.{list_any}
 use Rattle.pat_tree.specs.declared.nodes.Item.{Item}
 use Rattle.pat_tree.specs.declared.nodes.Item.TheVariants.{Char, Class}
@@ -8,7 +9,9 @@ use Rattle.pat_tree.specs.declared.nodes.Verb.TheVariants.{Accept}
 use Rattle.pat_tree.specs.declared.nodes.Part.{Part}
 use Rattle.pat_tree.specs.declared.nodes.Part.TheVariants.{Range, Set}
 use Rattle.pat_tree.specs.declared.nodes.ClassSpec.{ClassSpec}
-use Rattle.pat_tree.specs.Nested.{Nested, Row, Test, Other, empty, one, line_break, seq, group, repeat, one_repeat, atomic, look, condition, call, ref, anchor, keep_out, verb, callout, none, more, any_set, in_call, in_call_of, never, assert, called, no_other, other}
+use Rattle.pat_tree.specs.Nested.{Nested, Row, Test, Other, empty, one, line_break, seq, group, repeat, one_repeat}
+use Rattle.pat_tree.specs.Nested.{atomic, look, condition, call, ref, anchor, keep_out, verb, callout, none, more}
+use Rattle.pat_tree.specs.Nested.{any_set, in_call, in_call_of, never, assert, called, no_other, other}
 
 abbrev pub kept : Bool → List Nested → List Nested
 kept true ts = ts
@@ -79,7 +82,11 @@ captures t = length (filter is_capture (all_nodes t))
 
 abbrev pub number_twice : List Nested → Bool
 number_twice [] = false
-number_twice (t ∷ ts) = elim (number_of t) [ None ↦ number_twice ts | Some n ↦ list_any (is_capture_of n) ts || number_twice ts ]
+number_twice (t ∷ ts) = elim (number_of t) [
+  | None ↦ number_twice ts
+  | Some n ↦
+      list_any (is_capture_of n) ts || number_twice ts
+]
   where
     number_of : Nested → Option ℕ
     number_of (group number us) = number

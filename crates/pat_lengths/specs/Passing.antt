@@ -1,6 +1,9 @@
 -- Which trees can match an empty text, by the groups that can.
-use Rattle.std.specs.Prelude.{◌≡◌, ℕ, ◌≤◌, Bool, true, false, ◌||◌, ◌&&◌, ◌==◌, nat_le, List, [], ◌∷◌, Option, Some, None, length, filter, slice_index_or, if◌then◌else◌}
-use Rattle.pat_tree.specs.Nested.{Nested, Row, Test, Other, tree_at, empty, one, line_break, seq, group, repeat, one_repeat, atomic, look, condition, call, ref, anchor, keep_out, verb, callout, none, more, any_set, in_call, in_call_of, never, assert, called, no_other, other}
+use Rattle.std.specs.Prelude.{◌≡◌, ℕ, ◌≤◌, Bool, true, false, ◌||◌, ◌&&◌, ◌==◌, nat_le, List, [], ◌∷◌, Option, Some}
+use Rattle.std.specs.Prelude.{None, length, filter, slice_index_or, if◌then◌else◌}
+use Rattle.pat_tree.specs.Nested.{Nested, Row, Test, Other, tree_at, empty, one, line_break, seq, group, repeat}
+use Rattle.pat_tree.specs.Nested.{one_repeat, atomic, look, condition, call, ref, anchor, keep_out, verb, callout}
+use Rattle.pat_tree.specs.Nested.{none, more, any_set, in_call, in_call_of, never, assert, called, no_other, other}
 use Rattle.pat_lengths.specs.Lengths.{SomeLengths, least_lengths}
 use Rattle.pat_tree.specs.declared.nodes.Cond.{Cond}
 use Rattle.pat_tree.specs.declared.nodes.Cond.TheVariants.{Never}

@@ -1,5 +1,6 @@
 -- Lengths as they are kept: those past 32 bits count as the greatest number.
-use Rattle.std.specs.Prelude.{◌≡◌, ◌<◌, ◌||◌, ℕ, Bool, true, false, List, [], ◌∷◌, length, Option, Some, None, slice_index_or}
+use Rattle.std.specs.Prelude.{◌≡◌, ◌<◌, ◌||◌, ℕ, Bool, true, false, List, [], ◌∷◌, length, Option, Some, None}
+use Rattle.std.specs.Prelude.{slice_index_or}
 use Rattle.pat_tree.specs.declared.nodes.Cond.{Cond}
 use Rattle.pat_tree.specs.declared.nodes.Cond.TheVariants.{Never}
 use Rattle.pat_tree.specs.Nested.{Nested, tree_at}
@@ -27,7 +28,8 @@ abbrev pub KeepSpans : (Nested → SomeLengths) → List Nested → List (Option
 KeepSpans of trees spans = (k : ℕ) → k < length spans → span_at spans k ≡ kept (of (tree_at trees k))
 
 -- what is kept of groups is what they are, and whether a reference may have any length
-pub record KeepGroups (unset_matches : Bool) (whole : Nested) (of_group : ℕ → SomeLengths) (any : Bool) (groups : List (Option Span)) : Type 0 where
+pub record KeepGroups (unset_matches : Bool) (whole : Nested) (of_group : ℕ → SomeLengths) (any : Bool)
+    (groups : List (Option Span)) : Type 0 where
   pub any_is : any ≡ (unset_matches || has_shared_number whole)
   pub each : (n : ℕ) → span_at groups n ≡ kept (of_group n)
 

@@ -69,8 +69,8 @@ fn leads_back(alloc: Global, tree: &Tree, groups: &Groups) -> Result<Vec<bool>, 
     Ok(back)
 }
 
-/// Whether a group leads back to itself, where it is known which nodes name groups. One that names no other leads nowhere,
-/// and needs no search.
+/// Whether a group leads back to itself, where it is known which nodes name groups. One that names no other leads
+/// nowhere, and needs no search.
 fn leads_to_itself(
     alloc: Global,
     tree: &Tree,
@@ -99,8 +99,8 @@ pub(crate) fn place_at(places: &[Option<NodeId>], n: usize) -> Option<NodeId>
     }
 }
 
-/// The lengths of each group in lookbehinds, where calls and references lead through as many groups as there are. A group
-/// that leads back to itself has any length.
+/// The lengths of each group in lookbehinds, where calls and references lead through as many groups as there are. A
+/// group that leads back to itself has any length.
 // A round that changes nothing is the last: every later one would change nothing either.
 fn settled(
     alloc: Global,

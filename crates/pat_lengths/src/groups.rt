@@ -1,5 +1,6 @@
 // The capturing groups of a pattern.
-ghost use Rattle.std.specs.Prelude.{◌≡◌, ℕ, ◌+◌, ◌^◌, ◌<◌, ◌≤◌, ◌∷◌, ◌||◌, All, List, IfOk, is_some, length, map, slice_set};
+ghost use Rattle.std.specs.Prelude.{◌≡◌, ℕ, ◌+◌, ◌^◌, ◌<◌, ◌≤◌, ◌∷◌, ◌||◌, All, List, IfOk, is_some, length, map};
+ghost use Rattle.std.specs.Prelude.{slice_set};
 ghost use Rattle.pat_tree.specs.Nested.{Nested, trees, tree_at, nest};
 ghost use Rattle.pat_tree.specs.Rules.{number_in, numbers_of};
 ghost use Rattle.pat_tree.specs.Sound.{greatest, group_numbers};

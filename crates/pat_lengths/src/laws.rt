@@ -8,8 +8,8 @@ pub fn lengths_are_bounds()
     ensures { LengthLaws }
 {}
 
-/// Where the nodes of a tree stand in the order in which the parts of its pattern end, the leftmost fault of a lookbehind
-/// is that of the first lookbehind that is refused, by the nested value and the places alone.
+/// Where the nodes of a tree stand in the order in which the parts of its pattern end, the leftmost fault of a
+/// lookbehind is that of the first lookbehind that is refused, by the nested value and the places alone.
 pub fn first_refused_is_leftmost()
     ensures { FirstRefusedLaw }
 {}

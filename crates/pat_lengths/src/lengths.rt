@@ -4,7 +4,8 @@ ghost use Rattle.pat_tree.specs.Nested.{Nested, trees, tree_at, nest};
 ghost use Rattle.pat_tree.specs.Rules.{kids_of, asserted_by, is_test, number_in, IsOrdered};
 ghost use Rattle.pat_lengths.specs.Lengths as lengths;
 ghost use Rattle.pat_lengths.specs.Lengths.{SomeLengths, lengths};
-ghost use Rattle.pat_lengths.specs.Spans.{kept, span_at, KeepSpans, KeepGroups, lengths_of_parts, lengths_of_branches, lengths_of_condition};
+ghost use Rattle.pat_lengths.specs.Spans.{kept, span_at, KeepSpans, KeepGroups, lengths_of_parts};
+ghost use Rattle.pat_lengths.specs.Spans.{lengths_of_branches, lengths_of_condition};
 
 use crate::spans::{Span, any_length, between, either, in_turn, in_turns, only};
 use pat_tree::{Cond, Memory, Node, NodeId, Tree};

@@ -1,5 +1,5 @@
-//! The lengths that the parts of a pattern can match: whether it can match an empty text, and how far the branches of its
-//! lookbehinds reach (pcre2pattern, "Lookbehind assertions"; pcre2api, "Information about a compiled pattern").
+//! The lengths that the parts of a pattern can match: whether it can match an empty text, and how far the branches of
+//! its lookbehinds reach (pcre2pattern, "Lookbehind assertions"; pcre2api, "Information about a compiled pattern").
 #![tactic(auto)]
 
 mod accepts;

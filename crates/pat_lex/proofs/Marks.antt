@@ -1,5 +1,6 @@
 -- The second mark of a POSIX item, a byte at a time.
-use Rattle.std.proofs.Common.{◌≡◌, ℕ, ◌+◌, ◌<◌, ◌≤◌, ◌&&◌, ◌||◌, ◌==◌, List, ◌∷◌, length, get_or, drop, None, Some, if◌then◌else◌, refl, inl, inr, ap, ◌∙◌, arith}
+use Rattle.std.proofs.Common.{◌≡◌, ℕ, ◌+◌, ◌<◌, ◌≤◌, ◌&&◌, ◌||◌, ◌==◌, List, ◌∷◌, length, get_or, drop, None, Some}
+use Rattle.std.proofs.Common.{if◌then◌else◌, refl, inl, inr, ap, ◌∙◌, arith}
 use Rattle.std.proofs.lemmas.List.{drop_more, at_drop_all}
 use Rattle.std.proofs.lemmas.Bool.{cases_lt}
 use Rattle.token_parts.specs.Bytes.{◌∈◌}

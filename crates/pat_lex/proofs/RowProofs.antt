@@ -7,7 +7,8 @@ use Rattle.pat_lex.specs.Quantifiers.{is_counted, count, braces, with_mode, coun
 use Rattle.token_parts.specs.Codes.{octal, braced, hexadecimal, coded}
 use Rattle.pat_lex.specs.Escapes.{everywhere, outside, longer, escape}
 use Rattle.token_parts.specs.Targets.{digits_start, begins_number, numbered_escape}
-use Rattle.pat_lex.specs.Classes.{posix_set, posix_end, ignored_end, all_ignored_end, class_start, posix, bracket, in_class}
+use Rattle.pat_lex.specs.Classes.{posix_set, posix_end, ignored_end, all_ignored_end, class_start, posix, bracket}
+use Rattle.pat_lex.specs.Classes.{in_class}
 use Rattle.token_parts.specs.Settings.{set_by, unset_by, setting_closed, setting}
 use Rattle.token_parts.specs.Conditions.{named_test, bare_test, plain_test, condition}
 use Rattle.token_parts.specs.Callouts.{string_callout, callout}
@@ -18,7 +19,11 @@ use Rattle.pat_lex.specs.Rows.{WorkedRows}
 use Rattle.byte_lanes.specs.Newlines.{stands}
 
 pub rows_hold : WorkedRows
-unfolding run_end numeral name_end newline_at first_newline line_end blank_end blanks_end is_counted count braces with_mode counted everywhere outside octal braced hexadecimal coded numbered_escape longer escape digits_start begins_number posix_set posix_end ignored_end all_ignored_end class_start posix bracket in_class set_by unset_by setting_closed setting named_test bare_test plain_test condition string_callout callout verb_word named_verb colon_word star_word opened_by named_group angle special group rest plain token_at stands
+unfolding run_end numeral name_end newline_at first_newline line_end blank_end blanks_end is_counted count braces
+    with_mode counted everywhere outside octal braced hexadecimal coded numbered_escape longer escape digits_start
+    begins_number posix_set posix_end ignored_end all_ignored_end class_start posix bracket in_class set_by unset_by
+    setting_closed setting named_test bare_test plain_test condition string_callout callout verb_word named_verb
+    colon_word star_word opened_by named_group angle special group rest plain token_at stands
 rows_hold = record {
   backwards = refl;
   no_minimum = refl;

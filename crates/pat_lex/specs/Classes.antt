@@ -1,9 +1,11 @@
 -- Classes (pcre2pattern, "Square brackets and character classes", "POSIX character classes").
-use Rattle.std.specs.Prelude.{ℕ, ◌+◌, ◌-◌, true, false, not, ◌&&◌, ◌||◌, ◌==◌, List, [], ◌∷◌, length, drop, Option, Some, None, Ok, slice_get, slice_range, if◌then◌else◌, codes}
+use Rattle.std.specs.Prelude.{ℕ, ◌+◌, ◌-◌, true, false, not, ◌&&◌, ◌||◌, ◌==◌, List, [], ◌∷◌, length, drop, Option}
+use Rattle.std.specs.Prelude.{Some, None, Ok, slice_get, slice_range, if◌then◌else◌, codes}
 use Rattle.std.specs.Str.{bytes_eq}
 use Rattle.std.specs.Char.{is_ascii_alphanumeric}
 use Rattle.pat_tree.specs.declared.nodes.SetName.{SetName}
-use Rattle.pat_tree.specs.declared.nodes.SetName.TheVariants.{Digit, Space, Word, Alpha, Alnum, Lower, Upper, Blank, Cntrl, Graph, Print, Punct, Ascii, Xdigit}
+use Rattle.pat_tree.specs.declared.nodes.SetName.TheVariants.{Digit, Space, Word, Alpha, Alnum, Lower, Upper, Blank}
+use Rattle.pat_tree.specs.declared.nodes.SetName.TheVariants.{Cntrl, Graph, Print, Punct, Ascii, Xdigit}
 use Rattle.token_parts.specs.declared.token.LexFlags.{LexFlags}
 use Rattle.token_parts.specs.declared.token.Token.TheVariants.{Literal, Set, ClassStart, ClassEnd, Hyphen, Passed}
 use Rattle.token_parts.specs.Bytes.{◌∈◌, is_at}
@@ -32,8 +34,8 @@ posix_set name =
     else if bytes_eq name (codes "xdigit") then Some Xdigit
     else None
 
--- Where the mark of a POSIX item stands again with `]` after it, from a place on, the text from there on being given. No
--- `]` and no `[` with the mark stands before that; a backslash is passed over with a `]` or a backslash after it.
+-- Where the mark of a POSIX item stands again with `]` after it, from a place on, the text from there on being given.
+-- No `]` and no `[` with the mark stands before that; a backslash is passed over with a `]` or a backslash after it.
 abbrev pub mark_again : ℕ → ℕ → List ℕ → Option ℕ
 mark_again mark i [] = None
 mark_again mark i (c ∷ []) = None
@@ -56,7 +58,8 @@ module _ (text : List ℕ) where
     unfoldable pub ignored_end : ℕ → ℕ
     ignored_end i =
         if is_at text "\\" i && is_at text "E" (i + 1) then i + 2
-        else if is_at text "\\" i && is_at text "Q" (i + 1) && (is_at text "\\" (i + 2) && is_at text "E" (i + 3)) then i + 4
+        else if is_at text "\\" i && is_at text "Q" (i + 1) && (is_at text "\\" (i + 2) && is_at text "E" (i + 3))
+        then i + 4
         else if flags.extended_more && is_at text " \t" i then i + 1
         else i
 

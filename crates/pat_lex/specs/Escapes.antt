@@ -1,10 +1,13 @@
 -- What follows a backslash (pcre2pattern, "Backslash").
-use Rattle.std.specs.Prelude.{ℕ, ◌+◌, Bool, true, false, not, ◌&&◌, List, Option, Some, None, Ok, slice_get, if◌then◌else◌}
+use Rattle.std.specs.Prelude.{ℕ, ◌+◌, Bool, true, false, not, ◌&&◌, List, Option, Some, None, Ok, slice_get}
+use Rattle.std.specs.Prelude.{if◌then◌else◌}
 use Rattle.std.specs.Char.{is_ascii_digit, is_ascii_alphabetic}
 use Rattle.pat_tree.specs.declared.nodes.SetName.TheVariants.{Digit, Space, Word, H, V}
 use Rattle.token_parts.specs.declared.token.LexFlags.{LexFlags}
 use Rattle.token_parts.specs.declared.token.Token.{Token}
-use Rattle.token_parts.specs.declared.token.Token.TheVariants.{Literal, Set, QuoteOn, QuoteOff, Boundary, SubjectStart, SubjectEnd, EndOrNewline, StartGiven, KeepOut, LineBreak, NotNewline, Property}
+use Rattle.token_parts.specs.declared.token.Token.TheVariants.{Literal, Set, QuoteOn, QuoteOff, Boundary}
+use Rattle.token_parts.specs.declared.token.Token.TheVariants.{SubjectStart, SubjectEnd, EndOrNewline, StartGiven}
+use Rattle.token_parts.specs.declared.token.Token.TheVariants.{KeepOut, LineBreak, NotNewline, Property}
 use Rattle.token_parts.specs.Bytes.{◌∈◌, passes_at, is_at, run_end}
 use Rattle.token_parts.specs.Tell.{Lexed, fault}
 use Rattle.token_parts.specs.Targets.{group_escape, name_escape, numbered_escape}
@@ -66,12 +69,13 @@ module _ (text : List ℕ) where
       let to = run_end text (λ c. not (c ∈ "}")) from in
       if is_at text "}" to then Ok (Property from to is_outside, to + 1) else fault 146 at
 
-  -- `\p`, or `\P` for the characters outside: one letter, or a name in braces, which a `^` before it turns round ("Unicode
-  -- character properties")
+  -- `\p`, or `\P` for the characters outside: one letter, or a name in braces, which a `^` before it turns round
+  -- ("Unicode character properties")
   unfoldable pub property : Bool → ℕ → Lexed
   property is_outside at =
       if is_at text "{" (at + 2)
-      then (if is_at text "^" (at + 3) then property_named at (at + 4) (not is_outside) else property_named at (at + 3) is_outside)
+      then (if is_at text "^" (at + 3) then property_named at (at + 4) (not is_outside) else property_named at
+      (at + 3) is_outside)
       else if passes_at text is_ascii_alphabetic (at + 2) then Ok (Property (at + 2) (at + 3) is_outside, at + 3)
       else fault 146 at
 

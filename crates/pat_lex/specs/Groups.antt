@@ -1,5 +1,6 @@
 -- What an opening parenthesis begins (pcre2pattern, "Groups", "Assertions", "Conditional groups").
-use Rattle.std.specs.Prelude.{ℕ, ◌+◌, Bool, true, false, ◌&&◌, ◌||◌, ◌==◌, List, length, Option, Some, None, Ok, slice_get, if◌then◌else◌}
+use Rattle.std.specs.Prelude.{ℕ, ◌+◌, Bool, true, false, ◌&&◌, ◌||◌, ◌==◌, List, length, Option, Some, None, Ok}
+use Rattle.std.specs.Prelude.{slice_get, if◌then◌else◌}
 use Rattle.std.specs.Str.{byte}
 use Rattle.std.specs.Char.{is_ascii_alphabetic}
 use Rattle.token_parts.specs.declared.token.OpenKind.{OpenKind}
@@ -77,5 +78,6 @@ module _ (text : List ℕ) where
   group utf at =
       if is_at text "?" (at + 1)
       then (elim (slice_get text (at + 2)) [ None ↦ fault 114 (length text) | Some c ↦ special utf c at ])
-      else if is_at text "*" (at + 1) && (passes_at text is_ascii_alphabetic (at + 2) || is_at text ":" (at + 2)) then star_word text at
+      else if is_at text "*" (at + 1) && (passes_at text is_ascii_alphabetic (at + 2) || is_at text ":" (at + 2)) then
+      star_word text at
       else Ok (Open Capture, at + 1)

@@ -1,5 +1,6 @@
 -- Quantifiers (pcre2pattern, "Repetition").
-use Rattle.std.specs.Prelude.{ℕ, ◌+◌, Bool, ◌&&◌, ◌||◌, nat_lt, List, Option, Some, None, Ok, is_some, unwrap_or, if◌then◌else◌}
+use Rattle.std.specs.Prelude.{ℕ, ◌+◌, Bool, ◌&&◌, ◌||◌, nat_lt, List, Option, Some, None, Ok, is_some, unwrap_or}
+use Rattle.std.specs.Prelude.{if◌then◌else◌}
 use Rattle.token_parts.specs.declared.token.LexFlags.{LexFlags}
 use Rattle.token_parts.specs.declared.token.QuantMode.TheVariants.{Greedy, Lazy, Possessive}
 use Rattle.token_parts.specs.declared.token.Token.TheVariants.{Quantifier}

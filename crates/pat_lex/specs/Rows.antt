@@ -10,7 +10,8 @@ use Rattle.token_parts.specs.declared.token.OpenKind.TheVariants as open_kind
 use Rattle.token_parts.specs.declared.token.CondText.TheVariants.{InCallOf}
 use Rattle.token_parts.specs.declared.token.VerbKind.TheVariants.{Mark}
 use Rattle.token_parts.specs.declared.token.QuantMode.TheVariants.{Possessive}
-use Rattle.token_parts.specs.declared.token.Token.TheVariants.{Literal, Set, ClassStart, Reference, Open, OptionSet, CondStart, CalloutItem, VerbItem, Quantifier}
+use Rattle.token_parts.specs.declared.token.Token.TheVariants.{Literal, Set, ClassStart, Reference, Open, OptionSet}
+use Rattle.token_parts.specs.declared.token.Token.TheVariants.{CondStart, CalloutItem, VerbItem, Quantifier}
 use Rattle.token_parts.specs.Tell.{Lexed, fault}
 use Rattle.pat_lex.specs.Tokens.{token_at}
 

@@ -23,7 +23,11 @@ module _ (text : List ℕ) (flags : LexFlags) where
       if c ∈ "*" then with_mode text flags 0 None (at + 1)
       else if c ∈ "+" then with_mode text flags 1 None (at + 1)
       else if c ∈ "?" then with_mode text flags 0 (Some 1) (at + 1)
-      else if c ∈ "{" then (elim (braces text at) [ Some found ↦ counted text flags found at | None ↦ literal text flags.utf c at ])
+      else if c ∈ "{" then (elim (braces text at) [
+        | Some found ↦ counted text flags found at
+        | None ↦
+            literal text flags.utf c at
+      ])
       else if is_extended flags && nat_lt at (blank_end text flags at) then Ok (Passed, blank_end text flags at)
       else literal text flags.utf c at
 

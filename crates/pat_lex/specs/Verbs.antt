@@ -1,11 +1,13 @@
 -- What begins with `(*` and a word: verbs (pcre2pattern, "Backtracking control"), groups by name ("Groups",
 -- "Assertions"), and items for the very start ("Special start-of-pattern items").
-use Rattle.std.specs.Prelude.{ℕ, ◌+◌, ◌-◌, ◌^◌, Bool, true, false, not, ◌&&◌, ◌||◌, ◌==◌, nat_lt, List, Option, Some, None, Ok, slice_range, if◌then◌else◌, codes}
+use Rattle.std.specs.Prelude.{ℕ, ◌+◌, ◌-◌, ◌^◌, Bool, true, false, not, ◌&&◌, ◌||◌, ◌==◌, nat_lt, List, Option, Some}
+use Rattle.std.specs.Prelude.{None, Ok, slice_range, if◌then◌else◌, codes}
 use Rattle.std.specs.Str.{bytes_eq}
 use Rattle.pat_tree.specs.Newlines.{newline_named}
 use Rattle.pat_tree.specs.declared.options.Bsr.TheVariants as bsr
 use Rattle.token_parts.specs.declared.token.StartItem.{StartItem}
-use Rattle.token_parts.specs.declared.token.StartItem.TheVariants.{NewlineIs, BsrIs, Utf, Ucp, NotEmpty, NotEmptyAtStart, NoStartOpt, NoEffect, LimitMatch}
+use Rattle.token_parts.specs.declared.token.StartItem.TheVariants.{NewlineIs, BsrIs, Utf, Ucp, NotEmpty}
+use Rattle.token_parts.specs.declared.token.StartItem.TheVariants.{NotEmptyAtStart, NoStartOpt, NoEffect, LimitMatch}
 use Rattle.token_parts.specs.declared.token.OpenKind.{OpenKind}
 use Rattle.token_parts.specs.declared.token.OpenKind.TheVariants.{Atomic, Look}
 use Rattle.token_parts.specs.declared.token.VerbKind.{VerbKind}
@@ -73,7 +75,8 @@ group_word word =
 unfoldable pub is_script_run : List ℕ → Bool
 is_script_run word =
     bytes_eq word (codes "sr")
-    || (bytes_eq word (codes "script_run") || (bytes_eq word (codes "asr") || bytes_eq word (codes "atomic_script_run")))
+    || (bytes_eq word (codes "script_run") || (bytes_eq word (codes "asr") || bytes_eq word
+    (codes "atomic_script_run")))
 
 module _ (text : List ℕ) where
   -- a verb's name, up to the next `)`: at most 255 bytes, and MARK needs one
@@ -111,7 +114,8 @@ module _ (text : List ℕ) where
   limit at to =
       let end = digits_end text 10 (to + 1) in
       let n = numeral text 10 (to + 1) end in
-      if bytes_eq (slice_range text (at + 2) to) (codes "LIMIT_MATCH") && (nat_lt (to + 1) end && (nat_lt n (2 ^ 32) && is_at text ")" end))
+      if bytes_eq (slice_range text (at + 2) to) (codes "LIMIT_MATCH")
+      && (nat_lt (to + 1) end && (nat_lt n (2 ^ 32) && is_at text ")" end))
       then Ok (Start (LimitMatch n), end + 1)
       else fault 160 at
 

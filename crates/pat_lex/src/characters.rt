@@ -5,7 +5,8 @@ ghost use Rattle.pat_lex.specs.Characters.{literal};
 
 use token_parts::{Lexed, Token, character};
 
-/// The character that begins with this byte: without UTF the byte, and in UTF a code point in the bytes of RFC 3629, section
+/// The character that begins with this byte: without UTF the byte, and in UTF a code point in the bytes of RFC 3629,
+/// section
 /// 3.
 pub(crate) fn literal(text: &[u8], utf: bool, c: u8, at: usize) -> Lexed
     requires { at < length text.now }

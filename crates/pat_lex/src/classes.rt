@@ -1,7 +1,8 @@
 //! Classes (pcre2pattern, "Square brackets and character classes", "POSIX character classes").
 ghost use Rattle.std.specs.Prelude.{◌≡◌, ◌+◌, ◌<◌, ◌≤◌, length, drop, IfSome};
 ghost use Rattle.token_parts.specs.Tell.{IsSound};
-ghost use Rattle.pat_lex.specs.Classes.{posix_set, mark_again, posix_end, ignored_end, all_ignored_end, class_start, posix, bracket, longer_in_class, class_escape, in_class};
+ghost use Rattle.pat_lex.specs.Classes.{posix_set, mark_again, posix_end, ignored_end, all_ignored_end, class_start};
+ghost use Rattle.pat_lex.specs.Classes.{posix, bracket, longer_in_class, class_escape, in_class};
 
 use crate::characters::literal;
 use crate::escapes::{everywhere, property};
@@ -131,8 +132,8 @@ fn all_ignored_end(text: &[u8], flags: LexFlags, from: usize) -> usize
     i
 }
 
-/// `[` outside a class. A POSIX item that stands as a whole class is refused. A `^` negates the class also after what is
-/// ignored there.
+/// `[` outside a class. A POSIX item that stands as a whole class is refused. A `^` negates the class also after what
+/// is ignored there.
 #[tactic(auto, unfolding(crate::specs::Classes::class_start))]
 pub(crate) fn class_start(text: &[u8], flags: LexFlags, at: usize) -> Lexed
     requires { at < length text.now }

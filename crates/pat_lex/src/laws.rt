@@ -7,19 +7,20 @@ pub fn worked_rows()
     ensures { WorkedRows }
 {}
 
-/// Between `\Q` and `\E` every byte but a backslash stands for itself, in UTF every one of ASCII (pcre2pattern, "Backslash").
+/// Between `\Q` and `\E` every byte but a backslash stands for itself, in UTF every one of ASCII (pcre2pattern,
+/// "Backslash").
 pub fn quoted_bytes_stand_for_themselves()
     ensures { QuotedBytes }
 {}
 
-/// Outside classes a byte that is no metacharacter stands for itself, where nothing is ignored (pcre2pattern, "Characters
-/// and metacharacters").
+/// Outside classes a byte that is no metacharacter stands for itself, where nothing is ignored (pcre2pattern,
+/// "Characters and metacharacters").
 pub fn plain_bytes_stand_for_themselves()
     ensures { PlainBytes }
 {}
 
-/// In a class a byte that is none of its metacharacters stands for itself, where nothing is ignored (pcre2pattern, "Square
-/// brackets and character classes").
+/// In a class a byte that is none of its metacharacters stands for itself, where nothing is ignored (pcre2pattern,
+/// "Square brackets and character classes").
 pub fn class_bytes_stand_for_themselves()
     ensures { ClassBytes }
 {}

@@ -99,8 +99,8 @@ pub(crate) fn braces(text: &[u8], brace: usize) -> Option<Counts>
     }
 }
 
-/// A quantifier whose counts end at the place, with the `?` or `+` after it. EXTENDED ignores white space and `#` comments
-/// before the `+`, not before the `?`.
+/// A quantifier whose counts end at the place, with the `?` or `+` after it. EXTENDED ignores white space and `#`
+/// comments before the `+`, not before the `?`.
 #[tactic(auto, unfolding(crate::specs::Quantifiers::with_mode))]
 pub(crate) fn with_mode(text: &[u8], flags: LexFlags, min: u16, max: Option<u16>, i: usize) -> Lexed
     requires within { i ≤ length text.now }

@@ -2,7 +2,8 @@
 //! "Assertions"), and items for the very start ("Special start-of-pattern items").
 ghost use Rattle.std.specs.Prelude.{◌≡◌, ◌+◌, ◌<◌, ◌≤◌, ℕ, List, length, IfSome};
 ghost use Rattle.token_parts.specs.Tell.{IsSound, IsKind};
-ghost use Rattle.pat_lex.specs.Verbs.{start_word, verb_word, group_word, is_script_run, named_verb, closed_word, colon_word, limit, star_word};
+ghost use Rattle.pat_lex.specs.Verbs.{start_word, verb_word, group_word, is_script_run, named_verb, closed_word};
+ghost use Rattle.pat_lex.specs.Verbs.{colon_word, limit, star_word};
 
 use crate::faults::{MARK_WITHOUT_NAME, UNKNOWN_VERB, VERB_NAME_TOO_LONG};
 use pat_tree::{Bsr, Newline};

@@ -1,5 +1,6 @@
 -- Needed texts as they are kept for each node, and with a pattern's bound.
-use Rattle.std.specs.Prelude.{◌≡◌, ◌<◌, ℕ, Bool, true, false, List, ◌++◌, All, length, Option, Some, None, IfSome, slice_index_or}
+use Rattle.std.specs.Prelude.{◌≡◌, ◌<◌, ℕ, Bool, true, false, List, ◌++◌, All, length, Option, Some, None, IfSome}
+use Rattle.std.specs.Prelude.{slice_index_or}
 use Rattle.pat_tree.specs.declared.nodes.Item.{Item}
 use Rattle.pat_tree.specs.Nested.{Nested, Row, one, row, tree_at}
 use Rattle.pat_tree.specs.Parts.{TreeParts, tree_of}

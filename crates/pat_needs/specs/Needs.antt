@@ -1,20 +1,22 @@
 -- Texts of which every match of a part of a pattern takes one (docs/SPEED.md, "A text that every match needs").
-use Rattle.std.specs.Prelude.{◌≡◌, ℕ, zero, suc, ◌<◌, ◌≤◌, IsTrue, Bool, true, false, ◌==◌, ◌||◌, nat_lt, nat_le, if◌then◌else◌, ◌⊎◌, List, [], ◌∷◌}
+use Rattle.std.specs.Prelude.{◌≡◌, ℕ, zero, suc, ◌<◌, ◌≤◌, IsTrue, Bool, true, false, ◌==◌, ◌||◌, nat_lt, nat_le}
+use Rattle.std.specs.Prelude.{if◌then◌else◌, ◌⊎◌, List, [], ◌∷◌}
 use Rattle.byte_lanes.specs.Sets.{has_byte}
 use Rattle.pat_tree.specs.declared.nodes.Item.{Item}
 use Rattle.pat_tree.specs.declared.nodes.Item.TheVariants.{Char, AnyAll, NotNewline, Class}
-use Rattle.pat_tree.specs.Nested.{Nested, Row, empty, one, line_break, seq, group, repeat, one_repeat, atomic, look, condition, call, ref, anchor, keep_out, verb, callout, none, more}
+use Rattle.pat_tree.specs.Nested.{Nested, Row, empty, one, line_break, seq, group, repeat, one_repeat, atomic, look}
+use Rattle.pat_tree.specs.Nested.{condition, call, ref, anchor, keep_out, verb, callout, none, more}
 use Rattle.uni_text.specs.Ascii.{ascii_fold}
 use Rattle.uni_text.specs.Folding.{fold, begins_past_ascii}
 
--- In UTF a character that agrees with c, without regard to case or with it, may begin with the byte: a byte of ASCII is the
--- whole character.
+-- In UTF a character that agrees with c, without regard to case or with it, may begin with the byte: a byte of ASCII is
+-- the whole character.
 abbrev pub may_begin : Bool → ℕ → ℕ → Bool
 may_begin true c b = if nat_lt b 128 then fold c == fold b else begins_past_ascii c b
 may_begin false c b = if nat_lt b 128 then c == b else nat_le 128 c
 
--- The item may take a character that begins with the byte, in UTF or not, by what the classes hold of. In UTF nothing is
--- told of classes.
+-- The item may take a character that begins with the byte, in UTF or not, by what the classes hold of. In UTF nothing
+-- is told of classes.
 abbrev pub may_take : Bool → (ℕ → ℕ → Bool) → Item → ℕ → Bool
 may_take utf class_has (Char c caseless) b =
     if utf then may_begin caseless c b else if caseless then ascii_fold c == ascii_fold b else c == b

@@ -1,5 +1,6 @@
 // Texts of which every match of a part of a pattern takes one.
-ghost use Rattle.std.specs.Prelude.{◌≡◌, ◌⊎◌, ℕ, ◌+◌, ◌<◌, ◌≤◌, ◌∷◌, [], ◌&&◌, ◌||◌, ◌==◌, nat_lt, if◌then◌else◌, Bool, true, false, None, Some, All, List, map, IfOk, IfSome, length};
+ghost use Rattle.std.specs.Prelude.{◌≡◌, ◌⊎◌, ℕ, ◌+◌, ◌<◌, ◌≤◌, ◌∷◌, [], ◌&&◌, ◌||◌, ◌==◌, nat_lt, if◌then◌else◌};
+ghost use Rattle.std.specs.Prelude.{Bool, true, false, None, Some, All, List, map, IfOk, IfSome, length};
 ghost use Rattle.byte_lanes.specs.Sets.{has_byte};
 ghost use Rattle.char_sets.specs.Sets.{class_has};
 ghost use Rattle.pat_tree.specs.declared.nodes.Item.{Item};
@@ -10,7 +11,8 @@ ghost use Rattle.char_sets.specs.Table.{IsTableOf};
 ghost use Rattle.pat_needs.specs.declared.needs.Wanted.{Wanted};
 ghost use Rattle.pat_needs.specs.Needs.{may_begin, may_take, Needs, TakesOf, IsTaking, IsShort, Begins, copies};
 ghost use Rattle.pat_needs.specs.Texts.{sets_of};
-ghost use Rattle.pat_needs.specs.NeedTables.{may_of, IsNeed, IsItemNeed, IsRun, IsSomeNeed, AreAllNeeds, KeepNeeds, AreNeeds, IsDistant, IsNeedOf};
+ghost use Rattle.pat_needs.specs.NeedTables.{may_of, IsNeed, IsItemNeed, IsRun, IsSomeNeed, AreAllNeeds, KeepNeeds};
+ghost use Rattle.pat_needs.specs.NeedTables.{AreNeeds, IsDistant, IsNeedOf};
 ghost use Rattle.pat_needs.specs.declared.lacking.Lacking.{Lacking};
 ghost use Rattle.pat_needs.specs.Distances.{IsLong, NeedsAt};
 ghost use Rattle.pat_needs.specs.declared.needs.Distant.{Distant};
@@ -28,8 +30,8 @@ use pat_bounds::{Bound, bounds_of};
 use pat_tree::{Item, Memory, Node, NodeId, Tree};
 use std::alloc::Global;
 
-/// A text of which every match takes one, and what a search takes at most. So a subject without such a text has no match,
-/// and within the limits a search of it passes none.
+/// A text of which every match takes one, and what a search takes at most. So a subject without such a text has no
+/// match, and within the limits a search of it passes none.
 #[derive(Drop)]
 pub struct Need {
     pub text: ByteText,

@@ -1,5 +1,6 @@
 // Texts whose bytes are each of a set, and where such a text stands.
-ghost use Rattle.std.specs.Prelude.{◌≡◌, ◌↔◌, ℕ, ◌+◌, ◌<◌, ◌≤◌, ◌∷◌, [], List, None, Some, IsTrue, MatchOption, length, replicate};
+ghost use Rattle.std.specs.Prelude.{◌≡◌, ◌↔◌, ℕ, ◌+◌, ◌<◌, ◌≤◌, ◌∷◌, [], List, None, Some, IsTrue, MatchOption};
+ghost use Rattle.std.specs.Prelude.{length, replicate};
 ghost use Rattle.byte_lanes.specs.Places.{IsLeast};
 ghost use Rattle.byte_lanes.specs.Sets.{AreIn};
 ghost use Rattle.pat_needs.specs.Texts.{sets_of, Stands, AreUnions, IsUnion, IsUnionOf};

@@ -2,7 +2,8 @@
 use crate::text::ByteText;
 use byte_lanes::ByteSet;
 
-// A weight tells how many of so many bytes of a usual text are in a set: the weight of a place where any byte may stand.
+// A weight tells how many of so many bytes of a usual text are in a set: the weight of a place where any byte may
+// stand.
 pub(crate) const ANY: u32 = 400;
 
 // A set that is more common than this is of no use, since most lines have one of its bytes.

@@ -33,7 +33,8 @@ one_get [] x h is = absurd (omega (arith, h))
 one_get (y ∷ []) x h is = cc
 one_get (y ∷ z ∷ zs) x h is = absurd (omega (arith, h))
 
-pub two_get : (xs : List ℕ) (x y : ℕ) → length xs ≡ 2 → slice_get xs 0 ≡ Some x → slice_get xs 1 ≡ Some y → xs ≡ x ∷ y ∷ []
+pub two_get : (xs : List ℕ) (x y : ℕ) → length xs ≡ 2 → slice_get xs 0 ≡ Some x → slice_get xs 1 ≡ Some y
+    → xs ≡ x ∷ y ∷ []
 two_get [] x y h is is' = absurd (omega (arith, h))
 two_get (a ∷ []) x y h is is' = absurd (omega (arith, h))
 two_get (a ∷ b ∷ []) x y h is is' = cc
@@ -49,7 +50,8 @@ called_some [] n is some = refl
 called_some (zero ∷ ns) n is some = let same : 0 ≡ n = cc in absurd (omega (arith, same))
 called_some (suc m ∷ ns) n is some = refl
 
-pub three_get : (xs : List ℕ) (x y z : ℕ) → length xs ≡ 3 → slice_get xs 0 ≡ Some x → slice_get xs 1 ≡ Some y → slice_get xs 2 ≡ Some z → xs ≡ x ∷ y ∷ z ∷ []
+pub three_get : (xs : List ℕ) (x y z : ℕ) → length xs ≡ 3 → slice_get xs 0 ≡ Some x → slice_get xs 1 ≡ Some y
+    → slice_get xs 2 ≡ Some z → xs ≡ x ∷ y ∷ z ∷ []
 three_get [] x y z h a b c = absurd (omega (arith, h))
 three_get (d ∷ []) x y z h a b c = absurd (omega (arith, h))
 three_get (d ∷ e ∷ []) x y z h a b c = absurd (omega (arith, h))

@@ -1,5 +1,6 @@
 -- A draft with one node more, which is no group and takes no other.
-use Rattle.std.proofs.Common.{◌≡◌, ℕ, ◌≤◌, ◌+◌, ◌||◌, false, List, [], ◌∷◌, ◌++◌, length, None, refl, sym, ap, ◌∙◌, append_assoc, append-nil, arith, length-append, subst}
+use Rattle.std.proofs.Common.{◌≡◌, ℕ, ◌≤◌, ◌+◌, ◌||◌, false, List, [], ◌∷◌, ◌++◌, length, None, refl, sym, ap, ◌∙◌}
+use Rattle.std.proofs.Common.{append_assoc, append-nil, arith, length-append, subst}
 use Rattle.pat_tree.specs.declared.nodes.Placed.{Placed}
 use Rattle.pat_tree.specs.declared.nodes.ClassSpec.{ClassSpec}
 use Rattle.pat_tree.specs.Parts.{DraftParts, with_node, with_class}
@@ -20,11 +21,17 @@ pub none_taken : (ps : List Placed) → EndsIn ps []
 none_taken ps = record { front = loose ps; is = sym (append-nil (loose ps)) }
 
 -- a node that takes the last stands in turn
-turns_after : (before ps : List Placed) (p : Placed) → TakeTheLast before ps → EndsIn (before ++ ps) (kids_of p.node) → TakeTheLast before (ps ++ p ∷ [])
+turns_after : (before ps : List Placed) (p : Placed) → TakeTheLast before ps → EndsIn (before ++ ps) (kids_of p.node)
+    → TakeTheLast before (ps ++ p ∷ [])
 turns_after before [] p h last = (subst (λ l. EndsIn l (kids_of p.node)) (append-nil before) last, tt)
-turns_after before (q ∷ ps) p h last = (h.0, turns_after (before ++ q ∷ []) ps p h.1 (subst (λ l. EndsIn l (kids_of p.node)) (sym (append_assoc before (q ∷ []) ps)) last))
+turns_after before (q ∷ ps) p h last = (
+  h.0,
+  turns_after (before ++ q ∷ []) ps p h.1
+      (subst (λ l. EndsIn l (kids_of p.node)) (sym (append_assoc before (q ∷ []) ps)) last),
+)
 
-turns_with : (d new : DraftParts) (p : Placed) → new ≡ with_node d p → EndsIn d.nodes (kids_of p.node) → StandInTurn d.nodes → StandInTurn new.nodes
+turns_with : (d new : DraftParts) (p : Placed) → new ≡ with_node d p → EndsIn d.nodes (kids_of p.node)
+    → StandInTurn d.nodes → StandInTurn new.nodes
 turns_with d new p is last h = subst (λ v. StandInTurn v.nodes) (sym is) (turns_after [] d.nodes p h last)
 
 -- the draft has this loose node more, if any
@@ -54,7 +61,8 @@ extends_none d h = record {
   count = omega arith;
 }
 
-pub extends_class : (d : DraftParts) (spec : ClassSpec) → refs d.nodes ≡ places_named (references_of d.nodes) → Extends d (with_class d spec) []
+pub extends_class : (d : DraftParts) (spec : ClassSpec) → refs d.nodes ≡ places_named (references_of d.nodes)
+    → Extends d (with_class d spec) []
 extends_class d spec h = record {
   grows = grows_not d.nodes;
   options = refl;
@@ -68,8 +76,11 @@ extends_class d spec h = record {
   count = omega arith;
 }
 
-pub extends_node : (d new : DraftParts) (p : Placed) (id : ℕ) (t : Nested) → refs d.nodes ≡ places_named (references_of d.nodes) →
-    new ≡ with_node d p → Makes d.nodes new.nodes id t → Replaces d.nodes [] new.nodes id → ((n : ℕ) → is_group n p.node ≡ false) → ((n : ℕ) → has_group new.nodes n ≡ (has_group d.nodes n || is_group n p.node)) →
+pub extends_node : (d new : DraftParts) (p : Placed) (id : ℕ) (t : Nested)
+    → refs d.nodes ≡ places_named (references_of d.nodes) →
+    new ≡ with_node d p → Makes d.nodes new.nodes id t → Replaces d.nodes [] new.nodes id
+    → ((n : ℕ) → is_group n p.node ≡ false)
+    → ((n : ℕ) → has_group new.nodes n ≡ (has_group d.nodes n || is_group n p.node)) →
     refs_of p ≡ places_named (reference_in p) → kids_of p.node ≡ [] → Extends d new (id ∷ [])
 extends_node d new p id t h is made replaces no_group groups named childless = record {
   grows = made.grows;
@@ -77,8 +88,10 @@ extends_node d new p id t h is made replaces no_group groups named childless = r
   names = ap (λ v. v.names) is;
   verb_names = omega (arith, ap (λ v. length v.verb_names) is);
   classes = omega (arith, ap (λ v. length v.classes) is);
-  refs_are = ap (λ v. refs v.nodes) is ∙ refs_push d.nodes p ∙ ap (λ v. v ++ refs_of p) h ∙ ap (λ v. places_named (references_of d.nodes) ++ v) named
-      ∙ sym (places_append (references_of d.nodes) (reference_in p)) ∙ ap places_named (sym (references_push d.nodes p)) ∙ ap (λ v. places_named (references_of v.nodes)) (sym is);
+  refs_are = ap (λ v. refs v.nodes) is ∙ refs_push d.nodes p ∙ ap (λ v. v ++ refs_of p) h
+      ∙ ap (λ v. places_named (references_of d.nodes) ++ v) named
+      ∙ sym (places_append (references_of d.nodes) (reference_in p))
+      ∙ ap places_named (sym (references_push d.nodes p)) ∙ ap (λ v. places_named (references_of v.nodes)) (sym is);
   groups = λ n. groups n ∙ ap (λ b. has_group d.nodes n || b) (no_group n) ∙ or_false (has_group d.nodes n);
   turns = turns_with d new p is (rw childless (none_taken d.nodes));
   loose_is = replaces (loose d.nodes) (sym (append-nil (loose d.nodes)));
@@ -91,12 +104,15 @@ names_count names [] = omega arith
 names_count names (c ∷ cs) = omega (arith, length-append names ((c ∷ cs) ∷ []))
 
 -- the node of a verb, and its name
-pub extends_verb : (d new : DraftParts) (kind : VerbKind) (name : List ℕ) (at id : ℕ) → refs d.nodes ≡ places_named (references_of d.nodes) →
+pub extends_verb : (d new : DraftParts) (kind : VerbKind) (name : List ℕ) (at id : ℕ)
+    → refs d.nodes ≡ places_named (references_of d.nodes) →
     AddsVerb d new kind name at id → Extends d new (id ∷ [])
 unfolding places_named
 extends_verb d new kind name at id h adds =
     let named : DraftParts = record d { verb_names = names_after d.verb_names name } in
-    let e = extends_node named new (verb_node kind d.verb_names name at) id (verb (verb_of kind (number_of_name d.verb_names name))) h adds.is adds.makes adds.replaces (λ n. refl) adds.groups refl refl in record {
+    let e = extends_node named new (verb_node kind d.verb_names name at) id
+    (verb (verb_of kind (number_of_name d.verb_names name))) h adds.is adds.makes adds.replaces (λ n. refl)
+    adds.groups refl refl in record {
       grows = e.grows;
       options = e.options;
       names = e.names;
@@ -110,33 +126,49 @@ extends_verb d new kind name at id h adds =
     }
 
 pub adds_none : (d : DraftParts) → Adds d d
-adds_none d = record { options = refl; classes = refl; names = refl; verb_names = refl; references = refl; refs_are = refl; groups = λ n. refl; turns = λ h. h }
+adds_none d = record {
+  options = refl;
+  classes = refl;
+  names = refl;
+  verb_names = refl;
+  references = refl;
+  refs_are = refl;
+  groups = λ n. refl;
+  turns = λ h. h;
+}
 
 -- a node that is no capturing group, reference and lookaround is added
-pub adds_node : (d new : DraftParts) (p : Placed) → new ≡ with_node d p → refs new.nodes ≡ refs d.nodes ++ refs_of p → refs_of p ≡ [] → reference_in p ≡ [] →
-    ((n : ℕ) → has_group new.nodes n ≡ (has_group d.nodes n || is_group n p.node)) → ((n : ℕ) → is_group n p.node ≡ false) →
+pub adds_node : (d new : DraftParts) (p : Placed) → new ≡ with_node d p → refs new.nodes ≡ refs d.nodes ++ refs_of p
+    → refs_of p ≡ [] → reference_in p ≡ [] →
+    ((n : ℕ) → has_group new.nodes n ≡ (has_group d.nodes n || is_group n p.node))
+    → ((n : ℕ) → is_group n p.node ≡ false) →
     EndsIn d.nodes (kids_of p.node) → Adds d new
 adds_node d new p is refs_are none no_reference groups no_group last = record {
   options = ap (λ v. v.options) is;
   classes = ap (λ v. v.classes) is;
   names = ap (λ v. v.names) is;
   verb_names = ap (λ v. v.verb_names) is;
-  references = ap (λ v. references_of v.nodes) is ∙ references_push d.nodes p ∙ ap (λ v. references_of d.nodes ++ v) no_reference ∙ append-nil (references_of d.nodes);
+  references = ap (λ v. references_of v.nodes) is ∙ references_push d.nodes p
+      ∙ ap (λ v. references_of d.nodes ++ v) no_reference ∙ append-nil (references_of d.nodes);
   refs_are = refs_are ∙ ap (λ v. refs d.nodes ++ v) none ∙ append-nil (refs d.nodes);
   groups = λ n. groups n ∙ ap (λ b. has_group d.nodes n || b) (no_group n) ∙ or_false (has_group d.nodes n);
   turns = turns_with d new p is last;
 }
 
 -- a group's node is added
-pub closes_node : (d new : DraftParts) (p : Placed) (form : Form) → new ≡ with_node d p → refs new.nodes ≡ refs d.nodes ++ refs_of p → refs_of p ≡ places_named (noted form p.at) → reference_in p ≡ noted form p.at →
-    ((n : ℕ) → has_group new.nodes n ≡ (has_group d.nodes n || is_group n p.node)) → ((n : ℕ) → is_group n p.node ≡ is_number (number_of form) n) →
+pub closes_node : (d new : DraftParts) (p : Placed) (form : Form) → new ≡ with_node d p
+    → refs new.nodes ≡ refs d.nodes ++ refs_of p → refs_of p ≡ places_named (noted form p.at)
+    → reference_in p ≡ noted form p.at →
+    ((n : ℕ) → has_group new.nodes n ≡ (has_group d.nodes n || is_group n p.node))
+    → ((n : ℕ) → is_group n p.node ≡ is_number (number_of form) n) →
     EndsIn d.nodes (kids_of p.node) → Closes d new form p.at
 closes_node d new p form is refs_are named told groups numbered last = record {
   options = ap (λ v. v.options) is;
   classes = ap (λ v. v.classes) is;
   names = ap (λ v. v.names) is;
   verb_names = ap (λ v. v.verb_names) is;
-  references = ap (λ v. references_of v.nodes) is ∙ references_push d.nodes p ∙ ap (λ v. references_of d.nodes ++ v) told;
+  references = ap (λ v. references_of v.nodes) is ∙ references_push d.nodes p
+      ∙ ap (λ v. references_of d.nodes ++ v) told;
   refs_are = refs_are ∙ ap (λ v. refs d.nodes ++ v) named;
   groups = λ n. groups n ∙ ap (λ b. has_group d.nodes n || b) (numbered n);
   turns = turns_with d new p is last;

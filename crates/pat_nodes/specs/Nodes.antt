@@ -1,5 +1,6 @@
 -- What nodes of a draft stand for, and what it becomes as nodes are added.
-use Rattle.std.specs.Prelude.{true, false, ◌||◌, ◌==◌, ◌≡◌, ℕ, ◌+◌, ◌<◌, ◌≤◌, Bool, List, [], ◌∷◌, ◌++◌, length, map, Option, Some, None, All, IsTrue}
+use Rattle.std.specs.Prelude.{true, false, ◌||◌, ◌==◌, ◌≡◌, ℕ, ◌+◌, ◌<◌, ◌≤◌, Bool, List, [], ◌∷◌, ◌++◌, length, map}
+use Rattle.std.specs.Prelude.{Option, Some, None, All, IsTrue}
 use Rattle.pat_tree.specs.declared.nodes.Placed.{Placed}
 use Rattle.pat_tree.specs.declared.nodes.Cond.{Cond}
 use Rattle.pat_tree.specs.declared.nodes.Cond.TheVariants as cond
@@ -20,7 +21,8 @@ use Rattle.pat_nodes.specs.declared.frames.Form.TheVariants as kept
 use Rattle.pat_nodes.specs.declared.frames.Test as machine_test
 use Rattle.pat_nodes.specs.declared.frames.Test.TheVariants as tested
 use Rattle.pat_grammar.specs.State.{Reference}
-use Rattle.pat_grammar.specs.Groups.{Form, grouped, atomically, looks, conditional, defines, asserted, asserting, is_look, number_of, noted, places_named}
+use Rattle.pat_grammar.specs.Groups.{Form, grouped, atomically, looks, conditional, defines, asserted, asserting}
+use Rattle.pat_grammar.specs.Groups.{is_look, number_of, noted, places_named}
 use Rattle.pat_grammar.specs.Verbs.{verb_of, number_of_name, names_after}
 use Rattle.pat_grammar.specs.Parts.{alternative, once_more, repeat_of}
 use Rattle.pat_grammar.specs.Reading.{Parsed}
@@ -97,7 +99,8 @@ pub record IsMany (t : Nested) : Type 0 where
 
 -- a lookaround
 pub record IsLooking (t : Nested) : Type 0 where
-  pub looks : (low : ℕ) (high : Option ℕ) (lazy : Bool) → repeat_of low high lazy t ≡ repeat t low (once_more low high) lazy
+  pub looks : (low : ℕ) (high : Option ℕ) (lazy : Bool)
+      → repeat_of low high lazy t ≡ repeat t low (once_more low high) lazy
 
 abbrev pub atom_tree : List Placed → Atom → Nested
 atom_tree ps (Single item at) = one item

@@ -6,7 +6,8 @@ ghost use Rattle.pat_tree.specs.Rules.{number_in, AtMost};
 ghost use Rattle.pat_nodes.specs.declared.frames.Form.TheVariants as kept;
 ghost use Rattle.pat_grammar.specs.Groups.{number_of, built, conditional, asserting, defines};
 ghost use Rattle.pat_grammar.specs.Parts.{alternative, once_more, repeat_of, is_lazy, repeated};
-ghost use Rattle.pat_nodes.specs.Nodes.{Adds, Closes, CanHave, HasTest, TestsIn, IsAtom, atom_tree, ids_of, form_of, test_of, cond_in};
+ghost use Rattle.pat_nodes.specs.Nodes.{Adds, Closes, CanHave, HasTest, TestsIn, IsAtom, atom_tree, ids_of, form_of};
+ghost use Rattle.pat_nodes.specs.Nodes.{test_of, cond_in};
 
 use crate::frames::{Atom, Form, Level, Test};
 use pat_lex::QuantMode;

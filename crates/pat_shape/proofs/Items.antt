@@ -1,5 +1,7 @@
 -- Shapes of items, of simple assertions and of any text.
-use Rattle.std.proofs.Common.{◌≡◌, ◌≢◌, ◌∙◌, ℕ, zero, suc, ◌+◌, ◌-◌, ◌<◌, ◌≤◌, Bool, true, false, List, [], ◌∷◌, ◌++◌, length, drop, take-append-drop, get_or, Option, Some, None, inl, inr, refl, sym, ap, subst, arith}
+use Rattle.std.proofs.Common.{◌≡◌, ◌≢◌, ◌∙◌, ℕ, zero, suc, ◌+◌, ◌-◌, ◌<◌, ◌≤◌, Bool, true, false, List, [], ◌∷◌}
+use Rattle.std.proofs.Common.{◌++◌, length, drop, take-append-drop, get_or, Option, Some, None, inl, inr, refl, sym}
+use Rattle.std.proofs.Common.{ap, subst, arith}
 use Rattle.std.specs.Prelude.{IsTrue, slice_index, encode_utf8}
 use Rattle.std.specs.Char.{IsScalar, len_utf8}
 use Rattle.std.proofs.Math.Utf8.{encode}
@@ -44,7 +46,8 @@ module _ (parts : TreeParts) (lined : Bool) where
     folds_so u c = ap (λ f. f c) (h.folds ∙ ap fold_in (sym u))
 
     -- what it takes it may take
-    takes_may : (item : Item) (p b : ℕ) → takes g.scene item p b ≡ true → may_take parts.options.utf (class_has parts) item b ≡ true
+    takes_may : (item : Item) (p b : ℕ) → takes g.scene item p b ≡ true
+        → may_take parts.options.utf (class_has parts) item b ≡ true
     takes_may (Char c true) p b e = by_utf parts.options.utf (sym (ap (λ o. o.utf) h.options))
       where
         by_utf : (u : Bool) → u ≡ g.options.utf → may_take u (class_has parts) (Char c true) b ≡ true
@@ -60,24 +63,32 @@ module _ (parts : TreeParts) (lined : Bool) where
     none_lf l p inside = h.no_lf l p inside
 
     module _ (item : Item) (rs : List (ℕ × ℕ)) (k : HoldsBytes parts lined item rs) where
-      byte_shape : parts.options.utf ≡ false → (p q : ℕ) → after_item g.scene item p ≡ Some q → Matches g.subject (byte_in rs) p q
+      byte_shape : parts.options.utf ≡ false → (p q : ℕ) → after_item g.scene item p ≡ Some q
+          → Matches g.subject (byte_in rs) p q
       byte_shape off p q e = by_end (is_end g.scene p) g.options.utf (ap (λ o. o.utf) h.options ∙ off) refl e
         where
           by_takes : (b : Bool) → p < length g.subject → takes g.scene item p (slice_index g.subject p) ≡ b
-              → elim b as (λ _. Option ℕ) [ true ↦ Some (p + 1) | false ↦ None ] ≡ Some q → Matches g.subject (byte_in rs) p q
+              → elim b as (λ _. Option ℕ) [ true ↦ Some (p + 1) | false ↦ None ] ≡ Some q
+              → Matches g.subject (byte_in rs) p q
           by_takes true inside t e =
-              let low = h.small p inside in
-              (slice_index g.subject p, slice_get-get_or g.subject p 0 inside, k _ low (λ l. h.no_lf l p inside) (takes_may item p _ t), cc)
+              let low = h.small p inside in (
+                slice_index g.subject p,
+                slice_get-get_or g.subject p 0 inside,
+                k _ low (λ l. h.no_lf l p inside) (takes_may item p _ t),
+                cc,
+              )
           by_takes false inside t e = absurd cc
 
           by_end : (done u : Bool) → u ≡ false → is_end g.scene p ≡ done
-              → elim (elim done as (λ _. Option (ℕ × ℕ)) [ true ↦ None | false ↦ Some (char_at u g.subject p) ]) as (λ _. Option ℕ) [
+              → elim (elim done as (λ _. Option (ℕ × ℕ)) [ true ↦ None | false ↦ Some (char_at u g.subject p) ])
+              as (λ _. Option ℕ) [
                 | None ↦ None
                 | Some c ↦ elim (takes g.scene item p c.0) [ true ↦ Some c.1 | false ↦ None ]
               ] ≡ Some q → Matches g.subject (byte_in rs) p q
           by_end true u same at e = absurd cc
           by_end false true same at e = absurd cc
-          by_end false false same at e = by_takes (takes g.scene item p (slice_index g.subject p)) (leb-false (length g.subject) p at) refl e
+          by_end false false same at e = by_takes (takes g.scene item p (slice_index g.subject p))
+              (leb-false (length g.subject) p at) refl e
 
       -- In UTF by characters, of which one below 128 is a byte.
 
@@ -91,47 +102,63 @@ module _ (parts : TreeParts) (lined : Bool) where
         utf_on : g.options.utf ≡ true
         utf_on = ap (λ o. o.utf) h.options ∙ on
 
-        span_at : (p : ℕ) → IsTextPlace g.options g.subject p → p < length g.subject → IsScalar (C p) × (drop p g.subject ≡ encode_utf8 (C p) ++ Rest p)
+        span_at : (p : ℕ) → IsTextPlace g.options g.subject p → p < length g.subject
+            → IsScalar (C p) × (drop p g.subject ≡ encode_utf8 (C p) ++ Rest p)
         span_at p here inside =
-            let span = (next_place true g.subject p (λ _. h.text.checked utf_on) (here.within, λ _. here.between utf_on) inside).1 in
-            (span.scalar refl, sym (take-append-drop ((p + len_utf8 (C p)) - p) (drop p g.subject)) ∙ ap (λ (xs : List ℕ). xs ++ Rest p) span.stands)
+            let span = (next_place true g.subject p (λ _. h.text.checked utf_on)
+            (here.within, λ _. here.between utf_on) inside).1 in (
+              span.scalar refl,
+              sym (take-append-drop ((p + len_utf8 (C p)) - p) (drop p g.subject))
+                  ∙ ap (λ (xs : List ℕ). xs ++ Rest p) span.stands,
+            )
 
         -- an LF is a byte of its own
-        no_lf_char : IsTrue lined → (p : ℕ) → p < length g.subject → drop p g.subject ≡ encode_utf8 (C p) ++ Rest p → C p ≢ 10
+        no_lf_char : IsTrue lined → (p : ℕ) → p < length g.subject → drop p g.subject ≡ encode_utf8 (C p) ++ Rest p
+            → C p ≢ 10
         no_lf_char l p inside split e =
             let zeroes : p ≡ p + 0 = omega arith in
-            let bytes : drop p g.subject ≡ 10 ∷ Rest p = split ∙ ap (λ c. encode_utf8 c ++ Rest p) e ∙ ap (λ (xs : List ℕ). xs ++ Rest p) lf_bytes in
-            h.no_lf l p inside (ap (λ k. get_or g.subject k 0) zeroes ∙ sym (get_or-drop p g.subject 0 0) ∙ ap (λ (xs : List ℕ). get_or xs 0 0) bytes)
+            let bytes : drop p g.subject ≡ 10 ∷ Rest p = split ∙ ap (λ c. encode_utf8 c ++ Rest p) e
+            ∙ ap (λ (xs : List ℕ). xs ++ Rest p) lf_bytes in
+            h.no_lf l p inside (ap (λ k. get_or g.subject k 0) zeroes ∙ sym (get_or-drop p g.subject 0 0)
+            ∙ ap (λ (xs : List ℕ). get_or xs 0 0) bytes)
 
-        in_them : (p : ℕ) → IsTextPlace g.options g.subject p → p < length g.subject → takes g.scene item p (C p) ≡ true → in_ranges rs (C p) ≡ true
+        in_them : (p : ℕ) → IsTextPlace g.options g.subject p → p < length g.subject
+            → takes g.scene item p (C p) ≡ true → in_ranges rs (C p) ≡ true
         in_them p here inside t = elim (cases_lt (C p) 256) [
           | inl low ↦ k (C p) low (λ l. no_lf_char l p inside (span_at p here inside).1) (takes_may item p (C p) t)
-          | inr high ↦ past (C p) high (span_at p here inside).0 (subst (λ u. may_take u (class_has parts) item (C p) ≡ true) on (takes_may item p (C p) t))
+          | inr high ↦ past (C p) high (span_at p here inside).0
+              (subst (λ u. may_take u (class_has parts) item (C p) ≡ true) on (takes_may item p (C p) t))
         ]
 
-        char_shape : (p q : ℕ) → IsTextPlace g.options g.subject p → after_item g.scene item p ≡ Some q → Matches g.subject (char_in rs) p q
+        char_shape : (p q : ℕ) → IsTextPlace g.options g.subject p → after_item g.scene item p ≡ Some q
+            → Matches g.subject (char_in rs) p q
         char_shape p q here e = by_end (is_end g.scene p) g.options.utf utf_on refl e
           where
             by_takes : (b : Bool) → p < length g.subject → takes g.scene item p (C p) ≡ b
-                → elim b as (λ _. Option ℕ) [ true ↦ Some (p + len_utf8 (C p)) | false ↦ None ] ≡ Some q → Matches g.subject (char_in rs) p q
+                → elim b as (λ _. Option ℕ) [ true ↦ Some (p + len_utf8 (C p)) | false ↦ None ] ≡ Some q
+                → Matches g.subject (char_in rs) p q
             by_takes true inside t e =
                 let s = span_at p here inside in
                 (C p, kit_char_at g.subject p (C p) (Rest p) s.0 s.1, in_them p here inside t, cc)
             by_takes false inside t e = absurd cc
 
             by_end : (done u : Bool) → u ≡ true → is_end g.scene p ≡ done
-                → elim (elim done as (λ _. Option (ℕ × ℕ)) [ true ↦ None | false ↦ Some (char_at u g.subject p) ]) as (λ _. Option ℕ) [
+                → elim (elim done as (λ _. Option (ℕ × ℕ)) [ true ↦ None | false ↦ Some (char_at u g.subject p) ])
+                as (λ _. Option ℕ) [
                   | None ↦ None
                   | Some c ↦ elim (takes g.scene item p c.0) [ true ↦ Some c.1 | false ↦ None ]
                 ] ≡ Some q → Matches g.subject (char_in rs) p q
             by_end true u same at e = absurd cc
             by_end false false same at e = absurd cc
-            by_end false true same at e = by_takes (takes g.scene item p (C p)) (leb-false (length g.subject) p at) refl e
+            by_end false true same at e = by_takes (takes g.scene item p (C p)) (leb-false (length g.subject) p at)
+                refl e
 
-  pub byte_item : (item : Item) (rs : List (ℕ × ℕ)) → HoldsBytes parts lined item rs → parts.options.utf ≡ false → IsItemShape parts lined item (byte_in rs)
+  pub byte_item : (item : Item) (rs : List (ℕ × ℕ)) → HoldsBytes parts lined item rs → parts.options.utf ≡ false
+      → IsItemShape parts lined item (byte_in rs)
   byte_item item rs k off = (tt, λ g h p q here e. byte_shape g h item rs k off p q e)
 
-  pub char_item : (item : Item) (rs : List (ℕ × ℕ)) → HoldsBytes parts lined item rs → HoldsPast parts lined item rs → parts.options.utf ≡ true → IsItemShape parts lined item (char_in rs)
+  pub char_item : (item : Item) (rs : List (ℕ × ℕ)) → HoldsBytes parts lined item rs → HoldsPast parts lined item rs
+      → parts.options.utf ≡ true → IsItemShape parts lined item (char_in rs)
   char_item item rs k past on = (tt, λ g h p q here e. char_shape g h item rs k on past p q here e)
 
   -- Any text.
@@ -146,46 +173,63 @@ module _ (parts : TreeParts) (lined : Bool) where
     bytes_on (suc n) p q e low =
         let inside : p < length g.subject = omega (arith, e, low) in (
           p + 1,
-          (slice_index g.subject p, slice_get-get_or g.subject p 0 inside, k _ (h.small p inside) (λ l. h.no_lf l p inside), refl),
+          (
+            slice_index g.subject p,
+            slice_get-get_or g.subject p 0 inside,
+            k _ (h.small p inside) (λ l. h.no_lf l p inside),
+            refl,
+          ),
           bytes_on n (p + 1) q (omega (arith, e)) low,
         )
 
-  pub all_text : (rs : List (ℕ × ℕ)) (re : Re) → HoldsAll rs → AreRounds 0 None (byte_in rs) re → IsAnyText parts lined re
+  pub all_text : (rs : List (ℕ × ℕ)) (re : Re) → HoldsAll rs → AreRounds 0 None (byte_in rs) re
+      → IsAnyText parts lined re
   all_text rs re k r = (
     subst SeesLines (sym r.1.1.0) (repeat_sees r.0 r.1.0 (byte_in rs) tt),
     λ g h p q le low.
         let least = r.1.1.1.0 in
         subst (λ e. Matches g.subject e p q) (sym r.1.1.0)
-        (repeat_turns g.subject (byte_in rs) r.0 r.1.0 (q - p) (omega (arith, least)) (r.1.1.1.1 (q - p) tt) p q (bytes_on rs k g h (q - p) p q (omega (arith, le)) low)),
+        (repeat_turns g.subject (byte_in rs) r.0 r.1.0 (q - p) (omega (arith, least)) (r.1.1.1.1 (q - p) tt) p q
+        (bytes_on rs k g h (q - p) p q (omega (arith, le)) low)),
   )
 
   -- By what a class is made of.
 
-  exactly : (class : Class) (rs : List (ℕ × ℕ)) → HasExactly class.ranges.items (in_ranges rs) → (c : ℕ) → c ≤ 1114111 → in_ranges rs c ≡ true → in_ranges class.ranges.items c ≡ true
+  exactly : (class : Class) (rs : List (ℕ × ℕ)) → HasExactly class.ranges.items (in_ranges rs) → (c : ℕ) → c ≤ 1114111
+      → in_ranges rs c ≡ true → in_ranges class.ranges.items c ≡ true
   exactly class rs same c low h = same c low ∙ h
 
   low_enough : (c : ℕ) → IsScalar c → c ≤ 1114111
   low_enough c scalar = grind (arith, nat_tests)
 
-  pub bytes_told : (item : Item) (class : Class) (rs : List (ℕ × ℕ)) → HasExactly class.ranges.items (in_ranges rs) → HoldsBytes parts lined item rs
+  pub bytes_told : (item : Item) (class : Class) (rs : List (ℕ × ℕ)) → HasExactly class.ranges.items (in_ranges rs)
+      → HoldsBytes parts lined item rs
       → parts.options.utf ≡ false → IsItemShape parts lined item (meaning (Bytes class))
   bytes_told item class rs same holds off =
       subst (IsItemShape parts lined item) (sym (meaning-Bytes class))
-      (byte_item item class.ranges.items (λ b low lf may. exactly class rs same b (omega (arith, low)) (holds b low lf may)) off)
+      (byte_item item class.ranges.items (λ b low lf may. exactly class rs same b (omega (arith, low))
+      (holds b low lf may)) off)
 
-  pub chars_told : (item : Item) (class : Class) (rs base : List (ℕ × ℕ)) (r : ℕ × ℕ) → HasExactly class.ranges.items (in_ranges rs) → rs ≡ base ++ r ∷ []
-      → HoldsBytes parts lined item base → ((c : ℕ) → 256 ≤ c → IsScalar c → may_take true (class_has parts) item c ≡ true → in_range r c ≡ true)
+  pub chars_told : (item : Item) (class : Class) (rs base : List (ℕ × ℕ)) (r : ℕ × ℕ)
+      → HasExactly class.ranges.items (in_ranges rs) → rs ≡ base ++ r ∷ []
+      → HoldsBytes parts lined item base
+      → ((c : ℕ) → 256 ≤ c → IsScalar c → may_take true (class_has parts) item c ≡ true → in_range r c ≡ true)
       → parts.options.utf ≡ true → IsItemShape parts lined item (meaning (Chars class))
   chars_told item class rs base r same made holds past on =
       subst (IsItemShape parts lined item) (sym (meaning-Chars class))
       (char_item item class.ranges.items
-      (λ b low lf may. exactly class rs same b (omega (arith, low)) (subst (λ l. in_ranges l b ≡ true) (sym made) (in_more base r b (holds b low lf may))))
-      (λ c high scalar may. exactly class rs same c (low_enough c scalar) (subst (λ l. in_ranges l c ≡ true) (sym made) (in_last base r c (past c high scalar may))))
+      (λ b low lf may. exactly class rs same b (omega (arith, low))
+      (subst (λ l. in_ranges l b ≡ true) (sym made) (in_more base r b (holds b low lf may))))
+      (λ c high scalar may. exactly class rs same c (low_enough c scalar)
+      (subst (λ l. in_ranges l c ≡ true) (sym made) (in_last base r c (past c high scalar may))))
       on)
 
-  pub any_told : {E : Type 0} (class : Class) (rs : List (ℕ × ℕ)) (r : Result Hir E) → HasExactly class.ranges.items (in_ranges rs) → HoldsBytes parts lined AnyAll rs
-      → IfOk r (λ hir. AreRounds 0 None (meaning (Bytes class)) (meaning hir)) → IfOk r (λ hir. IsAnyText parts lined (meaning hir))
+  pub any_told : {E : Type 0} (class : Class) (rs : List (ℕ × ℕ)) (r : Result Hir E)
+      → HasExactly class.ranges.items (in_ranges rs) → HoldsBytes parts lined AnyAll rs
+      → IfOk r (λ hir. AreRounds 0 None (meaning (Bytes class)) (meaning hir))
+      → IfOk r (λ hir. IsAnyText parts lined (meaning hir))
   any_told class rs (Err e) same holds h = tt
   any_told class rs (Ok hir) same holds h =
-      all_text class.ranges.items (meaning hir) (λ b low lf. exactly class rs same b (omega (arith, low)) (holds b low lf refl))
+      all_text class.ranges.items (meaning hir)
+      (λ b low lf. exactly class rs same b (omega (arith, low)) (holds b low lf refl))
       (subst (λ a. AreRounds 0 None a (meaning hir)) (meaning-Bytes class) h)

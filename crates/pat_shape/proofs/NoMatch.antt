@@ -1,10 +1,12 @@
 -- Where the shape matches nothing the search finds nothing, and within the bound no limit is passed.
-use Rattle.std.proofs.Common.{◌≡◌, ℕ, zero, suc, ◌+◌, ◌<◌, ◌≤◌, Bool, true, false, List, [], ◌++◌, length, length-append, Option, Some, None, refl, sym, ap, subst, ◌∙◌, arith}
+use Rattle.std.proofs.Common.{◌≡◌, ℕ, zero, suc, ◌+◌, ◌<◌, ◌≤◌, Bool, true, false, List, [], ◌++◌, length}
+use Rattle.std.proofs.Common.{length-append, Option, Some, None, refl, sym, ap, subst, ◌∙◌, arith}
 use Rattle.std.specs.Prelude.{IfSome}
 use Rattle.std.proofs.lemmas.Option.{none-some}
 use Rattle.pat_bounds.specs.declared.bounds.Bound.{Bound}
 use Rattle.pat_bounds.specs.Bounds.{at}
-use Rattle.ordered_search.specs.Stream.{first_state, exhausted, by_verb, by_halt, is_partial, too_many_units, loop, abort, cut, reached, accepted, note, state, step, Stream, ends, ◌▸◌}
+use Rattle.ordered_search.specs.Stream.{first_state, exhausted, by_verb, by_halt, is_partial, too_many_units, loop}
+use Rattle.ordered_search.specs.Stream.{abort, cut, reached, accepted, note, state, step, Stream, ends, ◌▸◌}
 use Rattle.ordered_search.specs.Setting.{Setting, match_limit}
 use Rattle.ordered_search.specs.Run.{level, run}
 use Rattle.ordered_search.specs.Laws.{ending, step_count}
@@ -50,7 +52,8 @@ module _ (g : Setting) where
   walk_fails (suc n) u (step ▸ x) few h k whole = walk_fails n u x (omega (arith, few)) h k whole
 
 module _ (g : Setting) (re : Re) (b : Bound) (h : IsShapedSearch g re b) where
-  place_fails : (p : ℕ) → IsTextPlace g.options g.subject p → ((q : ℕ) → ¬ Matches g.subject re p q) → place_answer g p ≡ answers (Failed Exhausted)
+  place_fails : (p : ℕ) → IsTextPlace g.options g.subject p → ((q : ℕ) → ¬ Matches g.subject re p q)
+      → place_answer g p ≡ answers (Failed Exhausted)
   unfolding run
   place_fails p here none =
       let d = match_limit g in
@@ -60,8 +63,10 @@ module _ (g : Setting) (re : Re) (b : Bound) (h : IsShapedSearch g re b) where
       let most = at b.units (length g.subject + 1) in
       let room : 0 + most ≤ g.matching.frame_limit = let u = h.units in omega (arith, u) in
       let w = fits.0 s room in
-      let few : step_count (level g (run g d) g.whole s) ≤ d = let k = w.steps in let t = h.steps in omega (arith, k, t) in
-      let nowhere = only_wider (Matches g.subject re p) Nowhere (λ q m. none q m) _ (h.wide (suc d) s (loosened g (Some p) s (begun_at g h.search p here))) in
+      let few : step_count (level g (run g d) g.whole s) ≤ d = let k = w.steps in let t = h.steps in
+      omega (arith, k, t) in
+      let nowhere = only_wider (Matches g.subject re p) Nowhere (λ q m. none q m) _
+      (h.wide (suc d) s (loosened g (Some p) s (begun_at g h.search p here))) in
       ap (λ n. walk g d (run g n g.whole s)) e
       ∙ walk_fails g d (0 + most) (level g (run g d) g.whole s) few w.tame nowhere
       (λ cuts. let late = cut_law g (suc d) g.whole s cuts in omega (arith, late, few))
@@ -74,11 +79,13 @@ module _ (g : Setting) (re : Re) (b : Bound) (h : IsShapedSearch g re b) where
     tried_fails : (p : ℕ) → Inside p → tried g p ≡ answers (Failed Exhausted)
     tried_fails p here = by_test (is_excluded g p)
       where
-        by_test : (c : Bool) → ◌≡◌ {A = Walked} (elim c [ true ↦ answers (Failed Exhausted) | false ↦ place_answer g p ]) (answers (Failed Exhausted))
+        by_test : (c : Bool) → ◌≡◌ {A = Walked}
+            (elim c [ true ↦ answers (Failed Exhausted) | false ↦ place_answer g p ]) (answers (Failed Exhausted))
         by_test true = refl
         by_test false = place_fails p here.1 (none p here.0 here.1.within)
 
-    both : (p : ℕ) → Inside p → (o : Option ℕ) → IfSome o (λ q. p < q) → IfSome o (IsTextPlace g.options g.subject) → IfSome o Inside
+    both : (p : ℕ) → Inside p → (o : Option ℕ) → IfSome o (λ q. p < q) → IfSome o (IsTextPlace g.options g.subject)
+        → IfSome o Inside
     both p here None far there = tt
     both p here (Some q) far there = let from = here.0 in (omega (arith, from, far), there)
 
@@ -91,7 +98,8 @@ module _ (g : Setting) (re : Re) (b : Bound) (h : IsShapedSearch g re b) where
 
     inside_later : (p : ℕ) → Inside p → IfSome (place_after g p Exhausted) Inside
     inside_later p here =
-        kept (next_place g p) (both p here (next_place g p) (next_later g h.search.begun.within p) (next_stands g h.search.begun.within h.search.text p here.1))
+        kept (next_place g p) (both p here (next_place g p) (next_later g h.search.begun.within p)
+        (next_stands g h.search.begun.within h.search.text p here.1))
 
     none_from : (n : ℕ) (o : Option ℕ) → IfSome o Inside → from_place g n o ≡ none_found
     unfolding from_place
@@ -127,9 +135,13 @@ line_law g re b h bare before after at from le past =
     let there = slice_law re bare before g.subject after at p q to m in
     let long = length-append before (g.subject ++ after) in
     let long' = length-append g.subject after in
-    by_found held (length before + p) (length before + q) (omega (arith, le)) (omega (arith, to, long, long')) (omega (arith, to)) there (find re held from) refl past)
+    by_found held (length before + p) (length before + q) (omega (arith, le)) (omega (arith, to, long, long'))
+    (omega (arith, to)) there (find re held from) refl past)
   where
-    by_found : (held : List ℕ) (i j : ℕ) → from ≤ i → i ≤ length held → i ≤ length before + length g.subject → Matches held re i j
+    by_found : (held : List ℕ) (i j : ℕ) → from ≤ i → i ≤ length held → i ≤ length before + length g.subject
+        → Matches held re i j
         → (o : Option Match) → find re held from ≡ o → IsPast (length before + length g.subject) o → ⊥
-    by_found held i j begun to low m None e past = let v = value_of_IsSome _ (find_complete re held from i j begun to m) in none-some v.0 (sym e ∙ v.1)
-    by_found held i j begun to low m (Some found) e past = (find_sound re held from found e).2 i j begun (omega (arith, low, past)) m
+    by_found held i j begun to low m None e past = let v =
+        value_of_IsSome _ (find_complete re held from i j begun to m) in none-some v.0 (sym e ∙ v.1)
+    by_found held i j begun to low m (Some found) e past =
+        (find_sound re held from found e).2 i j begun (omega (arith, low, past)) m

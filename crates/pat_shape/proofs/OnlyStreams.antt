@@ -3,7 +3,9 @@ use Rattle.std.proofs.Common.{◌≡◌, ℕ, ◌+◌, Bool, true, false, None, 
 use Rattle.std.specs.Prelude.{nat_le}
 use Rattle.pat_tree.specs.declared.options.PartialMode.{PartialMode}
 use Rattle.pat_tree.specs.declared.options.PartialMode.TheVariants.{Off, Soft, Hard}
-use Rattle.ordered_search.specs.Stream.{State, Ending, exhausted, by_verb, by_halt, is_partial, How, reached, accepted, Note, note, hit_end, state, step, Stream, Search, ends, ◌▸◌, nothing, gives, ◌or_else◌, each, and_then, decide, catch}
+use Rattle.ordered_search.specs.Stream.{State, Ending, exhausted, by_verb, by_halt, is_partial, How, reached}
+use Rattle.ordered_search.specs.Stream.{accepted, Note, note, hit_end, state, step, Stream, Search, ends, ◌▸◌}
+use Rattle.ordered_search.specs.Stream.{nothing, gives, ◌or_else◌, each, and_then, decide, catch}
 use Rattle.ordered_search.specs.Setting.{Setting, held, hold, counts, reach, reach_if}
 use Rattle.ordered_search.proofs.ForwardStreams.{IsOnWay, Forward}
 use Rattle.pat_shape.specs.Wide.{Only}
@@ -34,7 +36,8 @@ module _ (P : ℕ → Type 0) where
   only_if true x y h k = h
   only_if false x y h k = k
 
-  pub only_if_so : (b : Bool) (x y : Stream) → (b ≡ true → Only P x) → Only P y → Only P (elim b [ true ↦ x | false ↦ y ])
+  pub only_if_so : (b : Bool) (x y : Stream) → (b ≡ true → Only P x) → Only P y
+      → Only P (elim b [ true ↦ x | false ↦ y ])
   only_if_so true x y h k = h refl
   only_if_so false x y h k = k
 
@@ -57,7 +60,8 @@ module _ (P : ℕ → Type 0) where
   only_catch caught (step ▸ x) h = only_catch caught x h
 
   module _ (g : Setting) where
-    pub only_held : (k : ℕ) (s : State) (f : Search) → Only P (f (record s { units = s.units + k })) → Only P (held g k s f)
+    pub only_held : (k : ℕ) (s : State) (f : Search) → Only P (f (record s { units = s.units + k }))
+        → Only P (held g k s f)
     unfolding held
     only_held k s f h = only_if (nat_le (s.units + k) g.matching.frame_limit) _ _ h (only_end _)
 
@@ -91,7 +95,8 @@ module _ (P Q : ℕ → Type 0) where
   only_wider to (state accepted s ▸ x) h = h
   only_wider to (step ▸ x) h = only_wider to x h
 
-  pub only_each : (x : Stream) (f : How → Search) → Only P x → ((s : State) → P s.place → Only Q (f reached s)) → Only Q (each x f)
+  pub only_each : (x : Stream) (f : How → Search) → Only P x → ((s : State) → P s.place → Only Q (f reached s))
+      → Only Q (each x f)
   unfolding Only each
   only_each (ends e) f h k = tt
   only_each (note m ▸ x) f h k = only_each x f h k
@@ -100,16 +105,19 @@ module _ (P Q : ℕ → Type 0) where
   only_each (step ▸ x) f h k = only_each x f h k
 
   -- what goes on from a state on its way
-  pub only_then : (g : Setting) (p : ℕ) (x : Stream) (f : Search) → Only P x → Forward g None p x → ((s : State) → IsOnWay g None s → P s.place → Only Q (f s)) → Only Q (and_then x f)
+  pub only_then : (g : Setting) (p : ℕ) (x : Stream) (f : Search) → Only P x → Forward g None p x
+      → ((s : State) → IsOnWay g None s → P s.place → Only Q (f s)) → Only Q (and_then x f)
   unfolding Only Forward each
   only_then g p (ends e) f h w k = tt
   only_then g p (note m ▸ x) f h w k = only_then g p x f h w k
-  only_then g p (state reached s ▸ x) f h w k = only_or_else Q (f s) (and_then x f) (k s w.1 h.0) (only_then g p x f h.1 w.2 k)
+  only_then g p (state reached s ▸ x) f h w k = only_or_else Q (f s) (and_then x f) (k s w.1 h.0)
+      (only_then g p x f h.1 w.2 k)
   only_then g p (state accepted s ▸ x) f h w k = absurd h
   only_then g p (step ▸ x) f h w k = only_then g p x f h w k
 
   -- the first state decides
-  pub only_decide : (fails : Ending → Bool) (x : Stream) (f : How → Search) (y : Stream) → Only P x → Only Q y → ((s : State) → P s.place → Only Q (f reached s)) → Only Q (decide fails x f y)
+  pub only_decide : (fails : Ending → Bool) (x : Stream) (f : How → Search) (y : Stream) → Only P x → Only Q y
+      → ((s : State) → P s.place → Only Q (f reached s)) → Only Q (decide fails x f y)
   unfolding Only decide
   only_decide fails (ends e) f y h k to = only_if Q (fails e) y (ends e) k (only_end Q e)
   only_decide fails (note m ▸ x) f y h k to = only_decide fails x f y h k to
@@ -126,7 +134,8 @@ module _ (Q : ℕ → Type 0) where
   only_each_any (state how s ▸ x) f k = only_or_else Q (f how s) (each x f) (k how s) (only_each_any x f k)
   only_each_any (step ▸ x) f k = only_each_any x f k
 
-  pub only_decide_any : (fails : Ending → Bool) (x : Stream) (f : How → Search) (y : Stream) → Only Q y → ((how : How) (s : State) → Only Q (f how s)) → Only Q (decide fails x f y)
+  pub only_decide_any : (fails : Ending → Bool) (x : Stream) (f : How → Search) (y : Stream) → Only Q y
+      → ((how : How) (s : State) → Only Q (f how s)) → Only Q (decide fails x f y)
   unfolding Only decide
   only_decide_any fails (ends e) f y k to = only_if Q (fails e) y (ends e) k (only_end Q e)
   only_decide_any fails (note m ▸ x) f y k to = only_decide_any fails x f y k to

@@ -1,5 +1,6 @@
 -- Ranges of characters.
-use Rattle.std.proofs.Common.{◌≡◌, ℕ, ◌+◌, ◌<◌, ◌≤◌, Bool, true, false, List, [], ◌∷◌, ◌++◌, ◌||◌, inl, inr, refl, sym, subst, arith}
+use Rattle.std.proofs.Common.{◌≡◌, ℕ, ◌+◌, ◌<◌, ◌≤◌, Bool, true, false, List, [], ◌∷◌, ◌++◌, ◌||◌, inl, inr, refl}
+use Rattle.std.proofs.Common.{sym, subst, arith}
 use Rattle.std.specs.Prelude.{◌==◌}
 use Rattle.std.proofs.lemmas.Bool.{cases_lt, le-leb, eqb-true, or_right}
 use Rattle.std.proofs.lemmas.Bool.Decides.{nat_tests}
@@ -22,7 +23,8 @@ unfolding in_ranges
 in_more [] r k h = absurd cc
 in_more (q ∷ rs) r k h = by_first (in_more rs r k) (in_range q k) h
   where
-    by_first : (in_ranges rs k ≡ true → in_ranges (rs ++ r ∷ []) k ≡ true) → (c : Bool) → (c || in_ranges rs k) ≡ true → (c || in_ranges (rs ++ r ∷ []) k) ≡ true
+    by_first : (in_ranges rs k ≡ true → in_ranges (rs ++ r ∷ []) k ≡ true) → (c : Bool) → (c || in_ranges rs k) ≡ true
+        → (c || in_ranges (rs ++ r ∷ []) k) ≡ true
     by_first later true h = refl
     by_first later false h = later h
 
@@ -33,7 +35,8 @@ one_of b = let le = le-leb b b (omega arith) in rw le refl
 pub holds_pushed : (P : ℕ → Type 0) (rs : List (ℕ × ℕ)) (b : ℕ) → Holds P rs b → Holds P (rs ++ (b, b) ∷ []) (b + 1)
 holds_pushed P rs b h k low w = elim (cases_lt k b) [
   | inl less ↦ in_more rs (b, b) k (h k less w)
-  | inr more ↦ let same : b ≡ k = omega (arith, low, more) in subst (λ n. in_ranges (rs ++ (b, b) ∷ []) n ≡ true) same (in_last rs (b, b) b (one_of b))
+  | inr more ↦ let same : b ≡ k = omega (arith, low, more) in
+      subst (λ n. in_ranges (rs ++ (b, b) ∷ []) n ≡ true) same (in_last rs (b, b) b (one_of b))
 ]
 
 pub holds_passed : (P : ℕ → Type 0) (rs : List (ℕ × ℕ)) (b : ℕ) → ¬ P b → Holds P rs b → Holds P rs (b + 1)
@@ -54,10 +57,13 @@ from_to a b c from to = let le = le-leb a c from in let le' = le-leb c b to in r
 -- a character past the first 256 that folds as one of ASCII does
 pub past_folds : (a b : ℕ) → a < 128 → 256 ≤ b → (fold a == fold b) ≡ true → in_range (383, 8490) b ≡ true
 unfolding in_range
-past_folds a b low high e = let known = past_alike a b (omega (arith, high)) (eqb-true (fold a) (fold b) e) in grind (arith, nat_tests)
+past_folds a b low high e = let known = past_alike a b (omega (arith, high)) (eqb-true (fold a) (fold b) e) in
+    grind (arith, nat_tests)
 
-pub past_letters : (a b : ℕ) → a < 128 → 256 ≤ b → (fold a == fold b) ≡ true → (a == 75 || (a == 83 || (a == 107 || a == 115))) ≡ true
-past_letters a b low high e = let known = past_alike a b (omega (arith, high)) (eqb-true (fold a) (fold b) e) in grind (arith, nat_tests)
+pub past_letters : (a b : ℕ) → a < 128 → 256 ≤ b → (fold a == fold b) ≡ true
+    → (a == 75 || (a == 83 || (a == 107 || a == 115))) ≡ true
+past_letters a b low high e = let known = past_alike a b (omega (arith, high)) (eqb-true (fold a) (fold b) e) in
+    grind (arith, nat_tests)
 
 -- every character past the first 256
 pub past_all : (c : ℕ) → 256 ≤ c → IsScalar c → in_range (256, 1114111) c ≡ true

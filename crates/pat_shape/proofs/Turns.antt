@@ -1,5 +1,6 @@
 -- So many rounds in turn, as the kit's repeats match them.
-use Rattle.std.proofs.Common.{◌≡◌, ℕ, zero, suc, ◌+◌, ◌-◌, ◌≤◌, true, Option, Some, None, inl, inr, refl, sym, subst, arith}
+use Rattle.std.proofs.Common.{◌≡◌, ℕ, zero, suc, ◌+◌, ◌-◌, ◌≤◌, true, Option, Some, None, inl, inr, refl, sym, subst}
+use Rattle.std.proofs.Common.{arith}
 use Rattle.std.specs.Prelude.{List}
 use Rattle.regex_hir.specs.Re.{Re, plus}
 use Rattle.regex_hir.specs.Matches.{Matches, Rounds, one_round, next_round}
@@ -52,11 +53,13 @@ module _ (hay : List ℕ) (a : Re) where
   up_to_turns (suc most) zero le i j t = inr t
   up_to_turns (suc most) (suc n) le i j t = inl (t.0, t.1, up_to_turns most n (omega (arith, le)) t.0 j t.2)
 
-  pub repeat_turns : (low : ℕ) (high : Option ℕ) (n : ℕ) → low ≤ n → IsUpTo high n → (i j : ℕ) → Turns (M a) n i j → M (repeat low high true a) i j
+  pub repeat_turns : (low : ℕ) (high : Option ℕ) (n : ℕ) → low ≤ n → IsUpTo high n → (i j : ℕ) → Turns (M a) n i j
+      → M (repeat low high true a) i j
   unfolding repeat
   repeat_turns low None n le to i j t = at_least_turns low n le i j t
   repeat_turns low (Some most) n le to i j t =
-      copies_turns low n (up_to true (most - low) a) (λ m l k e s. up_to_turns (most - low) m (omega (arith, e, to)) l k s) le i j t
+      copies_turns low n (up_to true (most - low) a)
+      (λ m l k e s. up_to_turns (most - low) m (omega (arith, e, to)) l k s) le i j t
 
 -- Rounds see lines as one does.
 

@@ -24,8 +24,8 @@ Only P (state reached s ▸ x) = P s.place × Only P x
 Only P (state accepted s ▸ x) = ⊥
 Only P (step ▸ x) = Only P x
 
--- A search without partial matching whose pattern takes no more than the limits allow, and wherever it gets from a place the
--- expression matches up to there.
+-- A search without partial matching whose pattern takes no more than the limits allow, and wherever it gets from a
+-- place the expression matches up to there.
 pub record IsShapedSearch (g : Setting) (re : Re) (b : Bound) : Type 0 where
   pub wide : (d : ℕ) (s : State) → IsOnWay g None s → Only (Matches g.subject re s.place) (run g d g.whole s)
   pub bounded : bound g.class_has g.whole ≡ Some b

@@ -18,9 +18,9 @@ use pat_tree::{MatchOptions, Memory, Options, Tree};
 use regex_hir::Hir;
 use std::alloc::Global;
 
-/// The shape of a pattern, for subjects of at most `most` bytes without LF: one in which it isn't found has no match, and
-/// a search of it passes no limit of `matching`. None where the pattern has no shape, or where such a search could pass a
-/// limit.
+/// The shape of a pattern, for subjects of at most `most` bytes without LF: one in which it isn't found has no match,
+/// and a search of it passes no limit of `matching`. None where the pattern has no shape, or where such a search could
+/// pass a limit.
 pub fn line_shape(
     alloc: Global,
     tree: &Tree,

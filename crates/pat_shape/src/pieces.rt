@@ -11,7 +11,8 @@ ghost use Rattle.regex_hir.specs.Re as re;
 ghost use Rattle.regex_hir.specs.Re.{empty};
 ghost use Rattle.regex_hir.specs.Meaning.{meaning};
 ghost use Rattle.pat_tree.specs.declared.options.Newline.TheVariants.{Lf};
-ghost use Rattle.pat_shape.specs.IsShape.{AreRounds, HoldsBytes, IsAnchorShape, IsAnyText, IsItemShape, IsUpTo, may_take};
+ghost use Rattle.pat_shape.specs.IsShape.{AreRounds, HoldsBytes, IsAnchorShape, IsAnyText, IsItemShape, IsUpTo};
+ghost use Rattle.pat_shape.specs.IsShape.{may_take};
 
 use char_sets::{ClassTable, both_cases};
 use pat_tree::{AnchorKind, Item, Memory, Newline, Tree};

@@ -253,10 +253,10 @@ fn node_shape(
     }
 }
 
-/// The shape of a pattern: an expression of the kit's that matches wherever the pattern's search gets, and maybe more. It
-/// reads no captures and looks no further than the kit can: a reference or a call stands for any text, a lookaround for
-/// the empty text, a large count for one without a maximum. A pattern with ACCEPT has no shape, nor one with a condition
-/// whose test is a lookaround. `lined` says that subjects hold no LF, which the shape then never takes.
+/// The shape of a pattern: an expression of the kit's that matches wherever the pattern's search gets, and maybe more.
+/// It reads no captures and looks no further than the kit can: a reference or a call stands for any text, a lookaround
+/// for the empty text, a large count for one without a maximum. A pattern with ACCEPT has no shape, nor one with a
+/// condition whose test is a lookaround. `lined` says that subjects hold no LF, which the shape then never takes.
 pub fn shape_of(
     alloc: Global,
     tree: &Tree,

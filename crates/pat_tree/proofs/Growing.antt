@@ -1,5 +1,6 @@
 -- A draft that grows keeps the trees that it has.
-use Rattle.std.proofs.Common.{◌≡◌, ℕ, suc, ◌+◌, ◌<◌, ◌≤◌, List, [], ◌∷◌, ◌++◌, length, map, refl, sym, ap, ◌∙◌, append_assoc, append-nil, length-append, arith, get_or, All, drop, drop-cons}
+use Rattle.std.proofs.Common.{◌≡◌, ℕ, suc, ◌+◌, ◌<◌, ◌≤◌, List, [], ◌∷◌, ◌++◌, length, map, refl, sym, ap, ◌∙◌}
+use Rattle.std.proofs.Common.{append_assoc, append-nil, length-append, arith, get_or, All, drop, drop-cons}
 use Rattle.std.proofs.lemmas.List.{get_or_append_left, map-append}
 use Rattle.std.proofs.Math.Seq.{get_or-append_seam}
 use Rattle.std.proofs.lemmas.List.Elements.{All-head, All-tail, All-weaker, All-push, All-nil}
@@ -21,7 +22,11 @@ trees_push ps p = after_push [] ps p
 length_after : (before : List Nested) (ps : List Placed) → length (trees_after before ps) ≡ length before + length ps
 unfolding trees_after
 length_after before [] = omega arith
-length_after before (q ∷ ps) = omega (arith, length_after (before ++ nest before q.node ∷ []) ps, length-append before (nest before q.node ∷ []))
+length_after before (q ∷ ps) = omega (
+  arith,
+  length_after (before ++ nest before q.node ∷ []) ps,
+  length-append before (nest before q.node ∷ []),
+)
 
 pub length_trees : (ps : List Placed) → length (trees ps) ≡ length ps
 unfolding trees
@@ -30,22 +35,32 @@ length_trees ps = omega (arith, length_after [] ps)
 pub refs_push : (ps : List Placed) (p : Placed) → refs (ps ++ p ∷ []) ≡ refs ps ++ refs_of p
 unfolding refs
 refs_push [] p = append-nil (refs_of p)
-refs_push (q ∷ ps) p = ap (λ rs. refs_of q ++ rs) (refs_push ps p) ∙ sym (append_assoc (refs_of q) (refs ps) (refs_of p))
+refs_push (q ∷ ps) p = ap (λ rs. refs_of q ++ rs) (refs_push ps p)
+    ∙ sym (append_assoc (refs_of q) (refs ps) (refs_of p))
 
 -- numbers below the length name the same trees in a longer list
 pub tree_at_longer : (ts more : List Nested) (k : ℕ) → k < length ts → tree_at (ts ++ more) k ≡ tree_at ts k
 tree_at_longer ts more k h = get_or_append_left ts more empty k h
 
-pub trees_at_longer : (ts more : List Nested) (ks : List ℕ) → All (λ k. k < length ts) ks → map (tree_at (ts ++ more)) ks ≡ map (tree_at ts) ks
+pub trees_at_longer : (ts more : List Nested) (ks : List ℕ) → All (λ k. k < length ts) ks
+    → map (tree_at (ts ++ more)) ks ≡ map (tree_at ts) ks
 trees_at_longer ts more [] h = refl
-trees_at_longer ts more (k ∷ ks) h = ap (λ t. t ∷ map (tree_at (ts ++ more)) ks) (tree_at_longer ts more k (All-head (λ x. x < length ts) k ks h)) ∙ ap (λ us. tree_at ts k ∷ us) (trees_at_longer ts more ks (All-tail (λ x. x < length ts) k ks h))
+trees_at_longer ts more (k ∷ ks) h = ap (λ t. t ∷ map (tree_at (ts ++ more)) ks)
+    (tree_at_longer ts more k (All-head (λ x. x < length ts) k ks h))
+    ∙ ap (λ us. tree_at ts k ∷ us) (trees_at_longer ts more ks (All-tail (λ x. x < length ts) k ks h))
 
 -- the new tree stands at the end
 pub tree_at_end : (ts : List Nested) (t : Nested) → tree_at (ts ++ t ∷ []) (length ts) ≡ t
 tree_at_end ts t = get_or-append_seam ts t [] empty
 
 pub grows_longer : {a b : List Placed} → Grows a b → length a ≤ length b
-grows_longer {a} {b} g = omega (arith, ap length g.trees_are, length-append (trees a) g.more, length_trees a, length_trees b)
+grows_longer {a} {b} g = omega (
+  arith,
+  ap length g.trees_are,
+  length-append (trees a) g.more,
+  length_trees a,
+  length_trees b,
+)
 
 pub grows_not : (a : List Placed) → Grows a a
 grows_not a = record { more = []; trees_are = sym (append-nil (trees a)) }
@@ -64,7 +79,8 @@ makes_push ps p = record {
 }
 
 -- a number that names a tree already
-pub makes_none : (ps : List Placed) (id : ℕ) (t : Nested) → id < length ps → tree_at (trees ps) id ≡ t → Makes ps ps id t
+pub makes_none : (ps : List Placed) (id : ℕ) (t : Nested) → id < length ps → tree_at (trees ps) id ≡ t
+    → Makes ps ps id t
 makes_none ps id t h e = record { grows = grows_not ps; below = h; is = e }
 
 -- first one node, then another
@@ -72,7 +88,8 @@ pub makes_then : {a b c : List Placed} {j : ℕ} {u : Nested} → Grows a b → 
 makes_then g n = record { grows = grows_then g n.grows; below = n.below; is = n.is }
 
 -- what stands for trees in a draft stands for them as the draft grows
-pub stand_on : {a b : List Placed} {ids : List ℕ} {found : List Nested} → Grows a b → Stand a ids found → Stand b ids found
+pub stand_on : {a b : List Placed} {ids : List ℕ} {found : List Nested} → Grows a b → Stand a ids found
+    → Stand b ids found
 stand_on {a} {b} {ids} {found} g s =
     let within : All (λ k. k < length (trees a)) ids = rw (length_trees a) s.below in record {
       below = All-weaker (λ k. k < length a) (λ k. k < length b) (λ k h. omega (arith, grows_longer g)) ids s.below;
@@ -82,19 +99,25 @@ stand_on {a} {b} {ids} {found} g s =
 pub stand_none : (ps : List Placed) → Stand ps [] []
 stand_none ps = record { below = All-nil (λ k. k < length ps); trees_are = refl }
 
-pub stand_push : {ps : List Placed} {ids : List ℕ} {found : List Nested} → (id : ℕ) (t : Nested) → Stand ps ids found → id < length ps → tree_at (trees ps) id ≡ t → Stand ps (ids ++ id ∷ []) (found ++ t ∷ [])
+pub stand_push : {ps : List Placed} {ids : List ℕ} {found : List Nested} → (id : ℕ) (t : Nested) → Stand ps ids found
+    → id < length ps → tree_at (trees ps) id ≡ t → Stand ps (ids ++ id ∷ []) (found ++ t ∷ [])
 stand_push {ps} {ids} {found} id t s h e = record {
   below = All-push (λ k. k < length ps) ids id s.below h;
-  trees_are = map-append (tree_at (trees ps)) ids (id ∷ []) ∙ ap (λ us. us ++ tree_at (trees ps) id ∷ []) s.trees_are ∙ ap (λ u. found ++ u ∷ []) e;
+  trees_are = map-append (tree_at (trees ps)) ids (id ∷ []) ∙ ap (λ us. us ++ tree_at (trees ps) id ∷ []) s.trees_are
+      ∙ ap (λ u. found ++ u ∷ []) e;
 }
 
 -- the list with the number that a new node has
-pub stand_made : {a b : List Placed} {i : ℕ} {t : Nested} {ids : List ℕ} {found : List Nested} → Makes a b i t → Stand a ids found → Stand b (ids ++ i ∷ []) (found ++ t ∷ [])
+pub stand_made : {a b : List Placed} {i : ℕ} {t : Nested} {ids : List ℕ} {found : List Nested} → Makes a b i t
+    → Stand a ids found → Stand b (ids ++ i ∷ []) (found ++ t ∷ [])
 stand_made {a} {b} {i} {t} m s = stand_push i t (stand_on m.grows s) m.below m.is
 
 pub tree_on : {a b : List Placed} → Grows a b → (k : ℕ) → k < length a → tree_at (trees b) k ≡ tree_at (trees a) k
-tree_on {a} {b} g k h = let within : k < length (trees a) = omega (arith, length_trees a) in rw g.trees_are (tree_at_longer (trees a) g.more k within)
+tree_on {a} {b} g k h = let within : k < length (trees a) = omega (arith, length_trees a) in
+    rw g.trees_are (tree_at_longer (trees a) g.more k within)
 
-pub refs_drop : (ps : List Placed) (j : ℕ) (p : Placed) → j < length ps → p ≡ get_or ps j p → refs (drop j ps) ≡ refs_of p ++ refs (drop (j + 1) ps)
+pub refs_drop : (ps : List Placed) (j : ℕ) (p : Placed) → j < length ps → p ≡ get_or ps j p
+    → refs (drop j ps) ≡ refs_of p ++ refs (drop (j + 1) ps)
 unfolding refs
-refs_drop ps j p h e = ap refs (drop-cons ps j p h) ∙ ap (λ q. refs_of q ++ refs (drop (suc j) ps)) (sym e) ∙ (let one : suc j ≡ j + 1 = omega arith in ap (λ k. refs_of p ++ refs (drop k ps)) one)
+refs_drop ps j p h e = ap refs (drop-cons ps j p h) ∙ ap (λ q. refs_of q ++ refs (drop (suc j) ps)) (sym e)
+    ∙ (let one : suc j ≡ j + 1 = omega arith in ap (λ k. refs_of p ++ refs (drop k ps)) one)

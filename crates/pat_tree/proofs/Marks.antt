@@ -15,5 +15,7 @@ marked_push (m ∷ marks) (suc n) = marked_push marks n
 pub none_marked : (n : ℕ) → marked [] n ≡ has_group [] n
 none_marked n = refl
 
-pub has_group_push : (ps : List Placed) (p : Placed) (n : ℕ) → has_group (ps ++ p ∷ []) n ≡ (has_group ps n || is_group n p.node)
-has_group_push ps p n = list_any-append (λ q. is_group n q.node) ps (p ∷ []) ∙ ap (λ t. has_group ps n || t) (or-false (is_group n p.node))
+pub has_group_push : (ps : List Placed) (p : Placed) (n : ℕ)
+    → has_group (ps ++ p ∷ []) n ≡ (has_group ps n || is_group n p.node)
+has_group_push ps p n = list_any-append (λ q. is_group n q.node) ps (p ∷ [])
+    ∙ ap (λ t. has_group ps n || t) (or-false (is_group n p.node))

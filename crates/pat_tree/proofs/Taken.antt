@@ -1,6 +1,8 @@
 -- A loose node is no child of another.
 use Rattle.std.specs.List.{list_any, IsDistinct}
-use Rattle.std.proofs.Common.{Bool, true, false, not, ◌||◌, ◌&&◌, ◌==◌, ◌≡◌, ℕ, suc, ◌+◌, ◌<◌, ◌≤◌, List, [], ◌∷◌, ◌++◌, length, refl, sym, ap, ◌∙◌, append_assoc, append-nil, arith, if◌then◌else◌, nat_eq, nat_lt, nat_le, All, subst, ◌⊎◌, inl, inr}
+use Rattle.std.proofs.Common.{Bool, true, false, not, ◌||◌, ◌&&◌, ◌==◌, ◌≡◌, ℕ, suc, ◌+◌, ◌<◌, ◌≤◌, List, [], ◌∷◌}
+use Rattle.std.proofs.Common.{◌++◌, length, refl, sym, ap, ◌∙◌, append_assoc, append-nil, arith, if◌then◌else◌}
+use Rattle.std.proofs.Common.{nat_eq, nat_lt, nat_le, All, subst, ◌⊎◌, inl, inr}
 use Rattle.std.proofs.Math.Bool.{or-false, or-true}
 use Rattle.std.proofs.lemmas.Bool.Decides.{nat_tests}
 use Rattle.std.proofs.lemmas.Cmp.{nat_eq_equiv}
@@ -29,14 +31,18 @@ in_without : (k : ℕ) (ks xs : List ℕ) → is_in k (without ks xs) ≡ (is_in
 in_without k ks [] = refl
 in_without k ks (x ∷ xs) =
     let ih = in_without k ks xs in
-    let one : (t : Bool) → is_in x ks ≡ t → is_in k (if t then without ks xs else x ∷ without ks xs) ≡ ((x == k || is_in k xs) && not (is_in k ks)) =
-    λ t e. elim t as (λ u. t ≡ u → is_in k (if u then without ks xs else x ∷ without ks xs) ≡ ((x == k || is_in k xs) && not (is_in k ks))) [
+    let one : (t : Bool) → is_in x ks ≡ t → is_in k (if t then without ks xs else x ∷ without ks xs)
+    ≡ ((x == k || is_in k xs) && not (is_in k ks)) =
+    λ t e. elim t as (λ u. t ≡ u → is_in k (if u then without ks xs else x ∷ without ks xs)
+    ≡ ((x == k || is_in k xs) && not (is_in k ks))) [
       | true ↦ λ u. elim (equal_or_not x k) [
-        | inl same ↦ (let there : is_in k ks ≡ true = subst (λ y. is_in y ks ≡ true) same (e ∙ u) in rw (ih, there) (grind arith))
+        | inl same ↦ (let there : is_in k ks ≡ true = subst (λ y. is_in y ks ≡ true) same (e ∙ u) in
+            rw (ih, there) (grind arith))
         | inr other ↦ rw (ih, other) refl
       ]
       | false ↦ λ u. elim (equal_or_not x k) [
-        | inl same ↦ (let there : is_in k ks ≡ false = subst (λ y. is_in y ks ≡ false) same (e ∙ u) in rw (ih, there) (grind arith))
+        | inl same ↦ (let there : is_in k ks ≡ false = subst (λ y. is_in y ks ≡ false) same (e ∙ u) in
+            rw (ih, there) (grind arith))
         | inr other ↦ rw (ih, other) refl
       ]
     ] refl in
@@ -46,14 +52,16 @@ in_push : (k n : ℕ) (xs : List ℕ) → is_in k (xs ++ n ∷ []) ≡ (is_in k 
 in_push k n xs = list_any-append (λ x. x == k) xs (n ∷ []) ∙ ap (λ t. is_in k xs || t) (or-false (n == k))
 
 split : (k n l : ℕ) (a b c : Bool) → (n ≤ k → b ≡ false) →
-    ((((a && not b) || n == k) || (nat_le (n + 1) k && nat_lt k (n + 1 + l))) && not c) ≡ ((a || (nat_le n k && nat_lt k (n + suc l))) && not (b || c))
+    ((((a && not b) || n == k) || (nat_le (n + 1) k && nat_lt k (n + 1 + l))) && not c)
+    ≡ ((a || (nat_le n k && nat_lt k (n + suc l))) && not (b || c))
 split k n l a true c h = let less : k < n = grind (arith, nat_tests, h) in grind (arith, nat_tests)
 split k n l true false c h = grind (arith, nat_tests)
 split k n l false false c h = grind (arith, nat_tests)
 
 -- what is loose after some nodes: what was loose before or is one of them, and no child of these
 loose_after_is : (k n : ℕ) (before : List ℕ) (ps : List Placed) → AreBelow n ps →
-    is_in k (loose_after n before ps) ≡ ((is_in k before || (nat_le n k && nat_lt k (n + length ps))) && not (is_in k (children ps)))
+    is_in k (loose_after n before ps) ≡ ((is_in k before || (nat_le n k && nat_lt k (n + length ps))) && not
+    (is_in k (children ps)))
 unfolding loose_after children
 loose_after_is k n before [] below = grind (arith, nat_tests)
 loose_after_is k n before (p ∷ ps) below =
@@ -61,12 +69,15 @@ loose_after_is k n before (p ∷ ps) below =
     let ih = loose_after_is k (n + 1) (free ++ n ∷ []) ps below.1 in
     let pushed = in_push k n free in
     let kept = in_without k (kids_of p.node) before in
-    let joined : is_in k (kids_of p.node ++ children ps) ≡ (is_in k (kids_of p.node) || is_in k (children ps)) = list_any-append (λ x. x == k) (kids_of p.node) (children ps) in
+    let joined : is_in k (kids_of p.node ++ children ps) ≡ (is_in k (kids_of p.node) || is_in k (children ps)) =
+    list_any-append (λ x. x == k) (kids_of p.node) (children ps) in
     let old : n ≤ k → is_in k (kids_of p.node) ≡ false = λ h. above k n (kids_of p.node) h below.0 in
-    rw (ih, pushed, kept, joined) (split k n (length ps) (is_in k before) (is_in k (kids_of p.node)) (is_in k (children ps)) old)
+    rw (ih, pushed, kept, joined) (split k n (length ps) (is_in k before) (is_in k (kids_of p.node))
+    (is_in k (children ps)) old)
 
 -- the loose nodes are those that are no child
-pub loose_is : (k : ℕ) (ps : List Placed) → AreBelow 0 ps → is_in k (loose ps) ≡ (nat_lt k (length ps) && not (is_in k (children ps)))
+pub loose_is : (k : ℕ) (ps : List Placed) → AreBelow 0 ps
+    → is_in k (loose ps) ≡ (nat_lt k (length ps) && not (is_in k (children ps)))
 unfolding loose
 loose_is k ps below = grind (arith, nat_tests, loose_after_is k 0 [] ps below)
 
@@ -86,12 +97,15 @@ clash false e f = cc
 
 -- numbers of which none is in the list and none comes twice
 module _ (free : List ℕ) where
-  fresh_after : (xs ks : List ℕ) → IsDistinct nat_eq xs → is_fresh free ks ≡ true → ((k : ℕ) → is_in k free ≡ true → is_in k ks ≡ true → is_in k xs ≡ false) → IsDistinct nat_eq (xs ++ ks)
+  fresh_after : (xs ks : List ℕ) → IsDistinct nat_eq xs → is_fresh free ks ≡ true
+      → ((k : ℕ) → is_in k free ≡ true → is_in k ks ≡ true → is_in k xs ≡ false) → IsDistinct nat_eq (xs ++ ks)
   fresh_after xs [] distinct fresh apart = subst (IsDistinct nat_eq) (sym (append-nil xs)) distinct
   fresh_after xs (k ∷ ks) distinct fresh apart =
-      let here : (is_in k free ≡ true) × (is_in k ks ≡ false) × (is_fresh free ks ≡ true) = all_three (is_in k free) (is_in k ks) (is_fresh free ks) fresh in
+      let here : (is_in k free ≡ true) × (is_in k ks ≡ false) × (is_fresh free ks ≡ true) =
+      all_three (is_in k free) (is_in k ks) (is_fresh free ks) fresh in
       let first : is_in k (k ∷ ks) ≡ true = grind (arith, nat_tests) in
-      let now : IsDistinct nat_eq (xs ++ k ∷ []) = IsDistinct-push nat_eq_equiv xs k distinct (flipped k xs ∙ apart k here.0 first) in
+      let now : IsDistinct nat_eq (xs ++ k ∷ []) = IsDistinct-push nat_eq_equiv xs k distinct
+      (flipped k xs ∙ apart k here.0 first) in
       let later : (j : ℕ) → is_in j free ≡ true → is_in j ks ≡ true → is_in j (xs ++ k ∷ []) ≡ false =
       λ j f i. elim (equal_or_not k j) [
         | inl same ↦ absurd (clash (is_in k ks) (subst (λ y. is_in y ks ≡ true) (sym same) i) here.1)
@@ -104,6 +118,7 @@ no_child a false h = refl
 no_child true true h = absurd (grind arith)
 no_child false true h = absurd (grind arith)
 
-pub still_distinct : (ps : List Placed) (ks : List ℕ) → AreBelow 0 ps → IsDistinct nat_eq (children ps) → is_fresh (loose ps) ks ≡ true → IsDistinct nat_eq (children ps ++ ks)
+pub still_distinct : (ps : List Placed) (ks : List ℕ) → AreBelow 0 ps → IsDistinct nat_eq (children ps)
+    → is_fresh (loose ps) ks ≡ true → IsDistinct nat_eq (children ps ++ ks)
 still_distinct ps ks below distinct fresh = fresh_after (loose ps) (children ps) ks distinct fresh
     (λ k free taken. no_child (nat_lt k (length ps)) (is_in k (children ps)) (sym (loose_is k ps below) ∙ free))

@@ -1,7 +1,9 @@
 -- The groups of a nested tree.
 use Rattle.std.specs.Prelude.{ℕ, Option, Some, None, ◌==◌, if◌then◌else◌}
 use Rattle.std.specs.Option.{option_or}
-use Rattle.pat_tree.specs.Nested.{Nested, Row, Test, Other, empty, one, line_break, seq, group, repeat, one_repeat, atomic, look, condition, call, ref, anchor, keep_out, verb, callout, none, more, any_set, in_call, in_call_of, never, assert, called, no_other, other}
+use Rattle.pat_tree.specs.Nested.{Nested, Row, Test, Other, empty, one, line_break, seq, group, repeat, one_repeat}
+use Rattle.pat_tree.specs.Nested.{atomic, look, condition, call, ref, anchor, keep_out, verb, callout, none, more}
+use Rattle.pat_tree.specs.Nested.{any_set, in_call, in_call_of, never, assert, called, no_other, other}
 
 -- the leftmost capturing group of this number, a tree standing before its children
 abbrev mutual
@@ -16,7 +18,8 @@ abbrev mutual
   find_group n (one_repeat item low high lazy) = None
   find_group n (atomic ts) = find_in n ts
   find_group n (look ahead positive once ts) = find_in n ts
-  find_group n (condition test first second) = option_or (find_test n test) (option_or (find_group n first) (find_other n second))
+  find_group n (condition test first second) = option_or (find_test n test)
+      (option_or (find_group n first) (find_other n second))
   find_group n (call m) = None
   find_group n (ref ms caseless) = None
   find_group n (anchor kind) = None

@@ -70,7 +70,8 @@ row (t ∷ ts) = more t (row ts)
 -- a lookaround as a test, and what stands for it where a callout comes first
 abbrev pub test_of : Nested → Test
 test_of (look ahead positive once branches) = assert ahead positive once branches
-test_of (seq (more (callout c) (more (look ahead positive once branches) none))) = called c (assert ahead positive once branches)
+test_of (seq (more (callout c) (more (look ahead positive once branches) none))) =
+    called c (assert ahead positive once branches)
 test_of _ = never
 
 -- the tree of a node, where its children stand for the trees at their numbers
@@ -105,7 +106,8 @@ module _ (trees : List Nested) where
   nest (node.Anchor kind) = anchor kind
   nest node.KeepOut = keep_out
   nest (node.VerbNode v) = verb v
-  nest (node.Callout number from to at len) = callout (record { number = number; text_from = from; text_to = to; item_at = at; item_len = len })
+  nest (node.Callout number from to at len) =
+      callout (record { number = number; text_from = from; text_to = to; item_at = at; item_len = len })
 
 -- the trees of the nodes, in the order of adding, after those of earlier nodes
 unfoldable pub trees_after : List Nested → List Placed → List Nested

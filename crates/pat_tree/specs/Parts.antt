@@ -33,7 +33,14 @@ abbrev pub with_verb_name : DraftParts → List ℕ → DraftParts
 with_verb_name d name = record d { verb_names = d.verb_names ++ name ∷ [] }
 
 abbrev pub with_root : DraftParts → ℕ → TreeParts
-with_root d root = record { options = d.options; nodes = d.nodes; classes = d.classes; names = d.names; verb_names = d.verb_names; root = root }
+with_root d root = record {
+  options = d.options;
+  nodes = d.nodes;
+  classes = d.classes;
+  names = d.names;
+  verb_names = d.verb_names;
+  root = root;
+}
 
 -- the nested value that a tree stands for
 abbrev pub tree_of : TreeParts → Nested

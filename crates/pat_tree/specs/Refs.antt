@@ -1,6 +1,8 @@
--- The groups that references, conditions and calls name (pcre2pattern, "Backreferences", "Conditional groups", "Recursive patterns").
+-- The groups that references, conditions and calls name (pcre2pattern, "Backreferences", "Conditional groups",
+-- "Recursive patterns").
 use Rattle.std.specs.List.{list_any, Any}
-use Rattle.std.specs.Prelude.{◌≡◌, ◌≤◌, All, min, ℕ, Bool, true, false, ◌==◌, ◌||◌, if◌then◌else◌, List, [], ◌∷◌, ◌++◌, map, slice_index_or, Option, Some, None}
+use Rattle.std.specs.Prelude.{◌≡◌, ◌≤◌, All, min, ℕ, Bool, true, false, ◌==◌, ◌||◌, if◌then◌else◌, List, [], ◌∷◌}
+use Rattle.std.specs.Prelude.{◌++◌, map, slice_index_or, Option, Some, None}
 use Rattle.pat_tree.specs.declared.nodes.Cond.{Cond}
 use Rattle.pat_tree.specs.declared.nodes.Cond.TheVariants.{AnySet, InCallOf}
 use Rattle.pat_tree.specs.declared.nodes.Node.{Node}
@@ -66,4 +68,5 @@ bad_ref exists (r ∷ rs) = if exists r.1 then bad_ref exists rs else Some (leas
 -- and where there is none, each group that is named stands
 abbrev pub IsLeftmost : (ℕ → Bool) → List (ℕ × ℕ) → Option ℕ → Type 0
 IsLeftmost stands named None = All (λ r. stands r.1 ≡ true) named
-IsLeftmost stands named (Some at) = Any (λ r. (r.0 ≡ at) × (stands r.1 ≡ false)) named × All (λ r. stands r.1 ≡ false → at ≤ r.0) named
+IsLeftmost stands named (Some at) = Any (λ r. (r.0 ≡ at) × (stands r.1 ≡ false)) named × All
+    (λ r. stands r.1 ≡ false → at ≤ r.0) named

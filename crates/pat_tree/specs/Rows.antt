@@ -21,7 +21,8 @@ named name group = record { name = name; group = group }
 
 -- `(ab|c)`: its letters, the sequence, the group
 abbrev pub two_branches : List Placed
-two_branches = letter 97 1 ∷ letter 98 2 ∷ placed (node.Seq (0 ∷ 1 ∷ [])) 1 ∷ letter 99 4 ∷ placed (node.Group (Some 1) (2 ∷ 3 ∷ [])) 0 ∷ []
+two_branches = letter 97 1 ∷ letter 98 2 ∷ placed (node.Seq (0 ∷ 1 ∷ [])) 1 ∷ letter 99 4 ∷ placed
+    (node.Group (Some 1) (2 ∷ 3 ∷ [])) 0 ∷ []
 
 -- `(?(?C7)(?=a)b)`
 abbrev pub called_condition : List Placed

@@ -4,7 +4,8 @@ use Rattle.std.specs.Prelude.{◌≡◌, ◌≤◌, ℕ, ◌<◌, true, List, []
 use Rattle.pat_tree.specs.declared.nodes.Node.{Node}
 use Rattle.pat_tree.specs.declared.nodes.Placed.{Placed}
 use Rattle.pat_tree.specs.Nested.{trees, tree_at}
-use Rattle.pat_tree.specs.Rules.{kids_of, asserted_by, classes_of, verb_names_of, numbers_of, IsNamed, IsOrdered, IsDefine, is_test}
+use Rattle.pat_tree.specs.Rules.{kids_of, asserted_by, classes_of, verb_names_of, numbers_of, IsNamed, IsOrdered}
+use Rattle.pat_tree.specs.Rules.{IsDefine, is_test}
 use Rattle.pat_tree.specs.Names.{AreInOrder}
 use Rattle.pat_tree.specs.Parts.{DraftParts, TreeParts}
 use Rattle.pat_tree.specs.Refs.{refs, has_group, bad_ref}

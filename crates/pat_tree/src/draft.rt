@@ -1,11 +1,14 @@
 //! A tree in the making.
 ghost use Rattle.std.specs.List.{list_all};
-ghost use Rattle.std.specs.Prelude.{true, if◌then◌else◌, ℕ, ◌||◌, ◌≡◌, ◌+◌, ◌<◌, ◌≤◌, [], ◌∷◌, ◌++◌, length, IfOk, OnOk, OnErr, All, MatchResult, Some, None};
+ghost use Rattle.std.specs.Prelude.{true, if◌then◌else◌, ℕ, ◌||◌, ◌≡◌, ◌+◌, ◌<◌, ◌≤◌, [], ◌∷◌, ◌++◌, length, IfOk};
+ghost use Rattle.std.specs.Prelude.{OnOk, OnErr, All, MatchResult, Some, None};
 ghost use Rattle.pat_tree.specs.Nested.{trees, tree_at, nest};
 ghost use Rattle.pat_tree.specs.Parts.{with_node, with_class, with_verb_name, with_root};
 ghost use Rattle.pat_tree.specs.Names.{with_name};
-ghost use Rattle.pat_tree.specs.Rules.{number_in, kids_of, asserted_by, classes_of, verb_names_of, numbers_of, IsNamed, IsOrdered, IsDefine, is_test};
-ghost use Rattle.pat_tree.specs.Refs.{refs, refs_of, named_by, is_called, is_group, has_group, marked, bad_ref, least_of};
+ghost use Rattle.pat_tree.specs.Rules.{number_in, kids_of, asserted_by, classes_of, verb_names_of, numbers_of};
+ghost use Rattle.pat_tree.specs.Rules.{IsNamed, IsOrdered, IsDefine, is_test};
+ghost use Rattle.pat_tree.specs.Refs.{refs, refs_of, named_by, is_called, is_group, has_group, marked, bad_ref};
+ghost use Rattle.pat_tree.specs.Refs.{least_of};
 ghost use Rattle.pat_tree.specs.Growing.{Makes, loose, without, is_fresh, Replaces};
 
 use crate::group_set::GroupSet;

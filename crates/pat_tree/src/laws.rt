@@ -1,5 +1,6 @@
 //! Worked rows of the definitions.
-ghost use Rattle.std.specs.Prelude.{ℕ, Bool, List, ◌≡◌, ◌||◌, ◌&&◌, not, nat_lt, length, true, false, [], ◌∷◌, Some, None};
+ghost use Rattle.std.specs.Prelude.{ℕ, Bool, List, ◌≡◌, ◌||◌, ◌&&◌, not, nat_lt, length, true, false, [], ◌∷◌, Some};
+ghost use Rattle.std.specs.Prelude.{None};
 ghost use Rattle.pat_tree.specs.declared.nodes.Item.TheVariants.{Char};
 ghost use Rattle.pat_tree.specs.declared.nodes.Node.TheVariants.{Call};
 ghost use Rattle.pat_tree.specs.Nested.{trees, tree_at, row, one, seq, group, condition, called, assert, no_other};

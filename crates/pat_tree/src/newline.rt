@@ -1,7 +1,8 @@
 //! The conventions of newlines: their names, their texts, and the newlines at a place.
 ghost use Rattle.std.specs.Prelude.{◌≡◌, ◌≤◌, ◌||◌, ◌∷◌, [], true, false, length, if◌then◌else◌};
 ghost use Rattle.std.specs.Str.{bytes_eq, str_eq_ignore_ascii_case};
-ghost use Rattle.byte_lanes.specs.Newlines.{newline_len, newline_before_len, longest_before, any_crlf_texts, any_texts, any_utf_texts, stands_before};
+ghost use Rattle.byte_lanes.specs.Newlines.{newline_len, newline_before_len, longest_before, any_crlf_texts};
+ghost use Rattle.byte_lanes.specs.Newlines.{any_texts, any_utf_texts, stands_before};
 ghost use Rattle.pat_tree.specs.Newlines.{end_kind, break_kind, newline_named, newline_in_any_case, longest_of};
 
 use crate::options::{Bsr, Newline};

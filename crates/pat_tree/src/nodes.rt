@@ -180,7 +180,8 @@ pub enum Part {
     Set { set: SetName, not: bool, ucp: bool },
 }
 
-/// A class: the characters of any part, or under `negated` all others (pcre2pattern, "Square brackets and character classes").
+/// A class: the characters of any part, or under `negated` all others (pcre2pattern, "Square brackets and character
+/// classes").
 #[derive(Debug, Drop)]
 pub struct ClassSpec {
     pub negated: bool,

@@ -26,7 +26,8 @@ pub enum Bsr {
     AnyCrLf,
 }
 
-/// The options of a pattern (pcre2api, "Compiling a pattern"; start items are in pcre2pattern, "Special start-of-pattern items").
+/// The options of a pattern (pcre2api, "Compiling a pattern"; start items are in pcre2pattern, "Special
+/// start-of-pattern items").
 #[derive(Clone, Copy, Debug, PartialEq, Eq)]
 pub struct Options {
     pub anchored: bool,

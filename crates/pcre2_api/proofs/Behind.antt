@@ -27,7 +27,8 @@ use Rattle.pcre2_errors.specs.CompileErrors.{check_error_of, compile_error_of}
 use Rattle.pcre2_api.specs.Compiled.{IsCompileError}
 use Rattle.pcre2_api.specs.Patterns.{fault_behind, unless_refused, compiled}
 
-place_is : (n : Node) (at : ℕ) → map (λ r. r.at) (reference_in (record { node = n; at = at })) ≡ place_in (record { node = n; at = at })
+place_is : (n : Node) (at : ℕ) → map (λ r. r.at) (reference_in (record { node = n; at = at })) ≡ place_in
+    (record { node = n; at = at })
 place_is (node.Ref groups caseless) at = refl
 place_is (node.Call n) at = refl
 place_is (node.Look ahead positive once branches) at = refl
@@ -39,9 +40,12 @@ places_are : (ps : List Placed) → map (λ r. r.at) (references_of ps) ≡ plac
 unfolding references_of
 places_are [] = refl
 places_are (p ∷ ps) =
-    map-append (λ r. r.at) (reference_in p) (references_of ps) ∙ ap (λ l. l ++ map (λ r. r.at) (references_of ps)) (place_is p.node p.at) ∙ ap (λ l. place_in p ++ l) (places_are ps)
+    map-append (λ r. r.at) (reference_in p) (references_of ps)
+    ∙ ap (λ l. l ++ map (λ r. r.at) (references_of ps)) (place_is p.node p.at)
+    ∙ ap (λ l. place_in p ++ l) (places_are ps)
 
-pub compiled_is : FirstRefusedLaw → (options : Options) (text : List ℕ) (t : TreeParts) → TreeRules t → StandInTurn t.nodes → AllUnder t.nodes t.root →
+pub compiled_is : FirstRefusedLaw → (options : Options) (text : List ℕ) (t : TreeParts) → TreeRules t
+    → StandInTurn t.nodes → AllUnder t.nodes t.root →
     read options text ≡ Ok (parsed_of t) → compiled options text ≡ unless_refused (pattern_of t) (first_fault t)
 compiled_is law options text t rules turns all_under is =
     let refused = first_refused t.options.match_unset_backref (tree_of t) in
@@ -50,11 +54,14 @@ compiled_is law options text t rules turns all_under is =
     ∙ ap (unless_refused (pattern_of t)) (sym (law t rules turns all_under))
 
 -- why nothing is compiled
-pub check_refused : (pattern : Result Pattern Fault) (p : Pattern) (found : Option LengthFault) (e : CheckError) → IsCheckError found e → pattern ≡ unless_refused p found →
+pub check_refused : (pattern : Result Pattern Fault) (p : Pattern) (found : Option LengthFault) (e : CheckError)
+    → IsCheckError found e → pattern ≡ unless_refused p found →
     IsCompileError pattern (check_error_of e)
 check_refused pattern p found (checking.Bad number at) h is = is ∙ ap (unless_refused p) h
 check_refused pattern p found checking.Memory h is = tt
 
-pub read_refused : (options : Options) (text : List ℕ) (e : ReadError) → Refuses (read options text) e → IsCompileError (compiled options text) (compile_error_of e)
-read_refused options text (reading.Bad number at) h = ap (λ r. r >>= λ parsed. unless_refused parsed.pattern (fault_behind parsed)) h
+pub read_refused : (options : Options) (text : List ℕ) (e : ReadError) → Refuses (read options text) e
+    → IsCompileError (compiled options text) (compile_error_of e)
+read_refused options text (reading.Bad number at) h =
+    ap (λ r. r >>= λ parsed. unless_refused parsed.pattern (fault_behind parsed)) h
 read_refused options text reading.Memory h = tt

@@ -1,5 +1,6 @@
 -- What a match by all ends answers, by what the start, the graph and the search say.
-use Rattle.std.proofs.Common.{◌≡◌, ℕ, Bool, true, false, ◌&&◌, not, if◌then◌else◌, nat_lt, length, Option, Some, None, subst}
+use Rattle.std.proofs.Common.{◌≡◌, ℕ, Bool, true, false, ◌&&◌, not, if◌then◌else◌, nat_lt, length, Option, Some}
+use Rattle.std.proofs.Common.{None, subst}
 use Rattle.std.specs.Prelude.{slice_index}
 use Rattle.std.specs.Str.{is_utf8}
 use Rattle.std.specs.Str.Lossy.{utf8_valid_len}

@@ -37,7 +37,8 @@ module _ (r : Result Held MatchError) (r' : Result MatchParts MatchError) (same 
   same_answer = answered r ∙ ap (λ (x : Result MatchParts MatchError). HasAnswer x) (sym same)
 
 module _ (r : Result Held ReservedError) (r' : Result MatchParts ReservedError) (same : r' ≡ as_reserved r) where
-  if_held' : (P : MatchParts → Type 0) (x : Result Held ReservedError) → IfOk x (λ h. P (parts_of h)) → IfOk (as_reserved x) P
+  if_held' : (P : MatchParts → Type 0) (x : Result Held ReservedError) → IfOk x (λ h. P (parts_of h))
+      → IfOk (as_reserved x) P
   if_held' P (Ok h) p = p
   if_held' P (Err e) p = p
 

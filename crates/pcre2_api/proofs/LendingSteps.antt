@@ -7,7 +7,8 @@ pub use mir.Syntax.{Dict, named, a_type, dcons, dnil}
 pub use mir.MapTy.{inst_fn}
 pub use contract.Running.{tables}
 pub use contract.Monad.{fact, fact_i}
-pub use types.Kit.{Item, mean, ‵, raw, ◌⊛◌, some, later, ◌$◌, ◌∵◌, !, qed, done, move, keep, drop, use0, use1, use2, split, join, pick, await, suffices, group}
+pub use types.Kit.{Item, mean, ‵, raw, ◌⊛◌, some, later, ◌$◌, ◌∵◌, !, qed, done, move, keep, drop, use0, use1, use2}
+pub use types.Kit.{split, join, pick, await, suffices, group}
 pub use types.Run.{enter, addr, stop, no_more, and_then, returns}
 pub use types.ByLocal.{alloc_all, pass_all, free_all, look_at, get, through, sets, lands_as}
 pub use denote.Builtin.{u8, usize, RefOf, RefMutOf, SliceRefOf}

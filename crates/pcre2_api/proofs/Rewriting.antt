@@ -11,7 +11,8 @@ use Rattle.pcre2_errors.specs.SubstErrors.{expand_refusal}
 use Rattle.pcre2_api.specs.Substituted.{refused_as, Refuses}
 
 -- an expansion that is refused after the text before a match
-pub refuses-added : (first : List ℕ) (r : Result (List ℕ) ExpandError) (e : ExpandError) → expansions.Refuses r e → Refuses (refused_as expand_refusal (after first r)) (expand_refusal e)
+pub refuses-added : (first : List ℕ) (r : Result (List ℕ) ExpandError) (e : ExpandError) → expansions.Refuses r e
+    → Refuses (refused_as expand_refusal (after first r)) (expand_refusal e)
 refuses-added first r unwritten.NoGroup h = ap (λ t. refused_as expand_refusal (after first t)) h
 refuses-added first r unwritten.Unset h = ap (λ t. refused_as expand_refusal (after first t)) h
 refuses-added first r unwritten.Memory h = tt

@@ -38,11 +38,13 @@ module _ (code : CodeParts) (matching : MatchOptions) (most : ℕ) (few : most <
       }) (λ p q low m. none (length before + p) (length before + q) (omega arith) (omega (arith, low))
       (slice_law re shape.0 before line after at p q low m)))
 
-  some_misses : (o : Option Hir) → IfSome o (λ hir. IsLineShape code.tree matching most (meaning hir)) → IfSome o (λ hir. MissesLines code matching most (meaning hir))
+  some_misses : (o : Option Hir) → IfSome o (λ hir. IsLineShape code.tree matching most (meaning hir))
+      → IfSome o (λ hir. MissesLines code matching most (meaning hir))
   some_misses None h = tt
   some_misses (Some hir) h = misses_lines (meaning hir) h
 
-  pub all_miss : {E : Type 0} (r : Result (Option Hir) E) → IfOk r (λ o. IfSome o (λ hir. IsLineShape code.tree matching most (meaning hir)))
+  pub all_miss : {E : Type 0} (r : Result (Option Hir) E)
+      → IfOk r (λ o. IfSome o (λ hir. IsLineShape code.tree matching most (meaning hir)))
       → IfOk r (λ o. IfSome o (λ hir. MissesLines code matching most (meaning hir)))
   all_miss (Err e) h = tt
   all_miss (Ok o) h = some_misses o h

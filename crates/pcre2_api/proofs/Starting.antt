@@ -1,5 +1,6 @@
 -- Where a search can begin.
-use Rattle.std.proofs.Common.{◌≡◌, ◌∙◌, ℕ, ◌<◌, ◌≤◌, Bool, true, false, ◌&&◌, not, if◌then◌else◌, List, length, nat_lt, Option, Some, None, IfSome, refl, sym, ap, subst, inl, inr}
+use Rattle.std.proofs.Common.{◌≡◌, ◌∙◌, ℕ, ◌<◌, ◌≤◌, Bool, true, false, ◌&&◌, not, if◌then◌else◌, List, length}
+use Rattle.std.proofs.Common.{nat_lt, Option, Some, None, IfSome, refl, sym, ap, subst, inl, inr}
 use Rattle.std.specs.Prelude.{slice_index}
 use Rattle.std.specs.Str.{IsUtf8, is_utf8}
 use Rattle.std.specs.Str.Lossy.{utf8_valid_len}
@@ -17,12 +18,16 @@ use Rattle.pcre2_api.specs.Matched.{IsMatchError, fault_in}
 use Rattle.pcre2_api.specs.Starts.{start_fault}
 
 pub not-text : (bytes : List ℕ) → (IsUtf8 bytes → ⊥) → is_utf8 bytes ≡ false
-not-text bytes refused = elim (cases_Bool (is_utf8 bytes)) [ inl on ↦ absurd (refused (IsUtf8-from_is_utf8 bytes on)) | inr off ↦ off ]
+not-text bytes refused = elim (cases_Bool (is_utf8 bytes)) [
+  | inl on ↦ absurd (refused (IsUtf8-from_is_utf8 bytes on))
+  | inr off ↦ off
+]
 
 -- the first of the tests that fails
 abbrev first_fault : ℕ → Bool → Bool → Bool → Option MatchError
 first_fault n past bad inside =
-    if past then Some told.BadOffset else if bad then Some (told.BadUtf n) else if inside then Some told.BadUtfOffset else None
+    if past then Some told.BadOffset else if bad then Some (told.BadUtf n) else if inside then Some told.BadUtfOffset
+    else None
 
 -- none of them fails
 record IsNone (past bad inside : Bool) : Type 0 where
@@ -58,19 +63,24 @@ module _ (utf : Bool) (subject : List ℕ) (start : ℕ) where
     | inr off ↦ ap (λ b. b && not (is_utf8 subject)) off
   ]
 
-  pub bad-text : start ≤ length subject → utf ≡ true → is_utf8 subject ≡ false → start_fault utf subject start ≡ Some (told.BadUtf (utf8_valid_len subject))
+  pub bad-text : start ≤ length subject → utf ≡ true → is_utf8 subject ≡ false
+      → start_fault utf subject start ≡ Some (told.BadUtf (utf8_valid_len subject))
   bad-text h on off =
       ap (λ b. first_fault longest b bad inside) (here h)
       ∙ ap (λ b. first_fault longest false b inside) (ap (λ b. b && not (is_utf8 subject)) on ∙ ap not off)
 
-  pub not-utf8 : start ≤ length subject → utf ≡ true → (IsUtf8 subject → ⊥) → start_fault utf subject start ≡ Some (told.BadUtf (utf8_valid_len subject))
+  pub not-utf8 : start ≤ length subject → utf ≡ true → (IsUtf8 subject → ⊥)
+      → start_fault utf subject start ≡ Some (told.BadUtf (utf8_valid_len subject))
   not-utf8 h on refused =
       bad-text h on (not-text subject refused)
 
-  by-place : start ≤ length subject → IsChecked utf subject → start_fault utf subject start ≡ (if inside then Some told.BadUtfOffset else None)
-  by-place h checked = ap (λ b. first_fault longest b bad inside) (here h) ∙ ap (λ b. first_fault longest false b inside) (good checked)
+  by-place : start ≤ length subject → IsChecked utf subject
+      → start_fault utf subject start ≡ (if inside then Some told.BadUtfOffset else None)
+  by-place h checked = ap (λ b. first_fault longest b bad inside) (here h)
+      ∙ ap (λ b. first_fault longest false b inside) (good checked)
 
-  pub stands-inside : start ≤ length subject → IsChecked utf subject → inside ≡ true → start_fault utf subject start ≡ Some told.BadUtfOffset
+  pub stands-inside : start ≤ length subject → IsChecked utf subject → inside ≡ true
+      → start_fault utf subject start ≡ Some told.BadUtfOffset
   stands-inside h checked e = by-place h checked ∙ ap (λ (b : Bool). if b then Some told.BadUtfOffset else None) e
 
   pub stands : start ≤ length subject → IsChecked utf subject → inside ≡ false → start_fault utf subject start ≡ None
@@ -84,7 +94,8 @@ module _ (utf : Bool) (subject : List ℕ) (start : ℕ) where
     begun-within = ltb-false (length subject) start tests.here
 
     pub begun-checked : IsChecked utf subject
-    begun-checked on = IsUtf8-from_is_utf8 subject (by_test (is_utf8 subject) (ap (λ b. b && not (is_utf8 subject)) (sym on) ∙ tests.good))
+    begun-checked on = IsUtf8-from_is_utf8 subject
+        (by_test (is_utf8 subject) (ap (λ b. b && not (is_utf8 subject)) (sym on) ∙ tests.good))
       where
         by_test : (b : Bool) → not b ≡ false → b ≡ true
         by_test true e = refl
@@ -120,7 +131,8 @@ faults-are n false false false = tt
 module _ (g : Setting) where
   pub only : (e : MatchError) → fault_in g ≡ Some e → IsStartFault e
   only e is = subst (λ f. IfSome f IsStartFault) is
-      (faults-are (utf8_valid_len g.subject) (nat_lt (length g.subject) g.start) (g.options.utf && not (is_utf8 g.subject)) (g.options.utf && is_inside (slice_index g.subject g.start)))
+      (faults-are (utf8_valid_len g.subject) (nat_lt (length g.subject) g.start)
+      (g.options.utf && not (is_utf8 g.subject)) (g.options.utf && is_inside (slice_index g.subject g.start)))
 
   pub told-refused : (e : MatchError) → fault_in g ≡ Some e → IsMatchError g e
   told-refused told.BadOffset is = is

@@ -1,11 +1,13 @@
 -- Groups by their numbers and names, as a replacement takes them.
-use Rattle.std.proofs.Common.{◌≡◌, ◌∙◌, ℕ, zero, suc, ◌-◌, ◌<◌, ◌≤◌, Bool, true, false, if◌then◌else◌, List, [], ◌∷◌, length, get_or, Option, Some, None, map, refl, sym, ap, subst, arith, bytes_eq}
+use Rattle.std.proofs.Common.{◌≡◌, ◌∙◌, ℕ, zero, suc, ◌-◌, ◌<◌, ◌≤◌, Bool, true, false, if◌then◌else◌, List, [], ◌∷◌}
+use Rattle.std.proofs.Common.{length, get_or, Option, Some, None, map, refl, sym, ap, subst, arith, bytes_eq}
 use Rattle.std.specs.Prelude.{slice_get, ◌||◌}
 use Rattle.std.specs.List.{list_any}
 use Rattle.std.specs.Option.{option_map}
 use Rattle.pat_tree.specs.declared.names.NameEntry.{NameEntry}
 use Rattle.frame_store.specs.Captures.{Captures}
-use Rattle.subst_plan.specs.Matched.{Matched, Found, text, unset, unknown, numbered, numbers_of, first_set, first_of, named}
+use Rattle.subst_plan.specs.Matched.{Matched, Found, text, unset, unknown, numbered, numbers_of, first_set, first_of}
+use Rattle.subst_plan.specs.Matched.{named}
 use Rattle.pcre2_api.specs.Captured.{text_at, group_of, first_named, named_of}
 use Rattle.pcre2_api.specs.Matched.{MatchParts}
 use Rattle.pcre2_api.specs.Taken.{named_group, taken_from}
@@ -29,8 +31,10 @@ Fits unknown None = Unit {0}
 Fits _ _ = ⊥
 
 -- the first of two groups that is set
-first-group : (found : Found) (group : Option (List ℕ)) (later : Found) (rest : Option (List ℕ)) → Fits found group → later ≡ there rest
-    → (elim found [ text bytes ↦ text bytes | unset ↦ later | unknown ↦ later ]) ≡ there (elim group [ Some t ↦ Some t | None ↦ rest ])
+first-group : (found : Found) (group : Option (List ℕ)) (later : Found) (rest : Option (List ℕ)) → Fits found group
+    → later ≡ there rest
+    → (elim found [ text bytes ↦ text bytes | unset ↦ later | unknown ↦ later ]) ≡ there
+    (elim group [ Some t ↦ Some t | None ↦ rest ])
 first-group (text bytes) (Some t) later rest fit e = ap text fit
 first-group (text bytes) None later rest fit e = absurd fit
 first-group unset None later rest fit e = e
@@ -50,7 +54,8 @@ module _ (subject : List ℕ) where
   abbrev texts : Captures → List (Option (List ℕ))
   texts caps = map (option_map (text_at subject)) caps
 
-  inner-group : (caps : Captures) (n : ℕ) → n < length caps → any_group (slice_get (texts caps) n) ≡ there (option_map (text_at subject) (get_or caps n None))
+  inner-group : (caps : Captures) (n : ℕ) → n < length caps
+      → any_group (slice_get (texts caps) n) ≡ there (option_map (text_at subject) (get_or caps n None))
   inner-group [] n h = absurd (omega arith)
   inner-group (None ∷ caps) zero h = refl
   inner-group (Some span ∷ caps) zero h = refl
@@ -61,7 +66,8 @@ module _ (subject : List ℕ) where
   no-group (x ∷ caps) zero h = absurd (omega arith)
   no-group (x ∷ caps) (suc n) h = no-group caps n (omega arith)
 
-  fits-inner : (caps : Captures) (n : ℕ) → Fits (any_group (slice_get (texts caps) n)) (option_map (text_at subject) (get_or caps n None))
+  fits-inner : (caps : Captures) (n : ℕ) → Fits (any_group (slice_get (texts caps) n))
+      (option_map (text_at subject) (get_or caps n None))
   fits-inner [] n = tt
   fits-inner (None ∷ caps) zero = tt
   fits-inner (Some span ∷ caps) zero = refl
@@ -89,7 +95,8 @@ module _ (f : MatchParts) where
 
   fits : (n : ℕ) → Fits (numbered m n) (group_of f n)
   fits zero = refl
-  fits (suc n) = subst (λ k. Fits (numbered m (suc n)) (option_map (text_at f.subject) (get_or caps k None))) (sym (less-one n)) (fits-inner f.subject caps n)
+  fits (suc n) = subst (λ k. Fits (numbered m (suc n)) (option_map (text_at f.subject) (get_or caps k None)))
+      (sym (less-one n)) (fits-inner f.subject caps n)
 
   pub numbered-set : (n : ℕ) (t : List ℕ) → group_of f n ≡ Some t → numbered m n ≡ text t
   numbered-set n t e = fits-set (numbered m n) (group_of f n) t (fits n) e
@@ -105,7 +112,8 @@ module _ (f : MatchParts) where
     has e = bytes_eq e.name name
 
     by-name : (b : Bool) (n : ℕ) (ns : List ℕ) (rest : Option (List ℕ)) → first_set m ns ≡ there rest
-        → first_set m (if b then n ∷ ns else ns) ≡ there (if b then (elim (group_of f n) [ Some t ↦ Some t | None ↦ rest ]) else rest)
+        → first_set m (if b then n ∷ ns else ns) ≡ there
+        (if b then (elim (group_of f n) [ Some t ↦ Some t | None ↦ rest ]) else rest)
     by-name true n ns rest e = first-group (numbered m n) (group_of f n) (first_set m ns) rest (fits n) e
     by-name false n ns rest e = e
 
@@ -117,7 +125,8 @@ module _ (f : MatchParts) where
     set-is-first [] t e = cc
     set-is-first (n ∷ ns) t e = e
 
-    some-number : (b rest : Bool) (n : ℕ) (ns : List ℕ) → (b || rest) ≡ true → (rest ≡ true → first_of m ns ≡ first_set m ns)
+    some-number : (b rest : Bool) (n : ℕ) (ns : List ℕ) → (b || rest) ≡ true
+        → (rest ≡ true → first_of m ns ≡ first_set m ns)
         → first_of m (if b then n ∷ ns else ns) ≡ first_set m (if b then n ∷ ns else ns)
     some-number true rest n ns h later = refl
     some-number false rest n ns h later = later h

@@ -1,5 +1,6 @@
 -- What a search answers, by what the library's call says.
-use Rattle.std.proofs.Common.{◌≡◌, ◌∙◌, ℕ, ◌≤◌, List, length, pos, Option, Some, None, Result, Ok, Err, IfOk, IfErr, OnOk, refl, sym, ap, subst, append-nil}
+use Rattle.std.proofs.Common.{◌≡◌, ◌∙◌, ℕ, ◌≤◌, List, length, pos, Option, Some, None, Result, Ok, Err, IfOk, IfErr}
+use Rattle.std.proofs.Common.{OnOk, refl, sym, ap, subst, append-nil}
 use Rattle.pat_tree.specs.declared.options.MatchOptions.{MatchOptions}
 use Rattle.pat_tree.specs.Pattern.{Pattern, pattern_of}
 use Rattle.ordered_search.specs.Setting.{Setting}
@@ -36,7 +37,8 @@ module _ (searching : Setting) where
 
   by_answer : {a : MatchAnswer} → fault_in searching ≡ None → (match_answer searching).answer ≡ a →
       here ≡ answer_of (length searching.subject) (last_name (match_answer searching).notes) a
-  by_answer begun is = ap by_fault begun ∙ ap (answer_of (length searching.subject) (last_name (match_answer searching).notes)) is
+  by_answer begun is = ap by_fault begun
+      ∙ ap (answer_of (length searching.subject) (last_name (match_answer searching).notes)) is
 
   pub search-found : (f : MatchParts) → IsFound searching f → here ≡ found f.outcome
   search-found f is = by_answer is.begun is.answer
@@ -61,11 +63,13 @@ module _ (code : CodeParts) (matching : MatchOptions) (subject : List ℕ) (star
   abbrev at_start : Setting
   at_start = search_of code matching subject start (λ _. pos 0)
 
-  pub answer-found : (f : MatchParts) → IsFound at_start f → answer_at (pattern_of code.tree) matching subject start ≡ found f.outcome
+  pub answer-found : (f : MatchParts) → IsFound at_start f
+      → answer_at (pattern_of code.tree) matching subject start ≡ found f.outcome
   unfolding answer_at
   answer-found f is = search-found at_start f is
 
-  pub answer-error : (e : MatchError) → IsMatchError at_start e → Says e (answer_at (pattern_of code.tree) matching subject start)
+  pub answer-error : (e : MatchError) → IsMatchError at_start e
+      → Says e (answer_at (pattern_of code.tree) matching subject start)
   unfolding answer_at
   answer-error e is = search-error at_start e is
 
@@ -77,11 +81,18 @@ module _ (p : Pattern) (matching : MatchOptions) (subject : List ℕ) (at : ℕ)
 
   pub begun-at-none : answer_at p matching subject at ≡ none → start_fault p.options.utf subject at ≡ None
   unfolding answer_at
-  begun-at-none is = none-begun (start_fault p.options.utf subject at) (answer_in (length subject) (match_answer (setting p matching subject at))) is
+  begun-at-none is = none-begun (start_fault p.options.utf subject at)
+      (answer_in (length subject) (match_answer (setting p matching subject at))) is
 
-  pub fails-at : (e : MatchError) → start_fault p.options.utf subject at ≡ Some e → answer_at p matching subject at ≡ failed e
+  pub fails-at : (e : MatchError) → start_fault p.options.utf subject at ≡ Some e
+      → answer_at p matching subject at ≡ failed e
   unfolding answer_at
-  fails-at e is = ap (λ (f : Option MatchError). elim f [ Some e ↦ failed e | None ↦ answer_in (length subject) (match_answer (setting p matching subject at)) ]) is
+  fails-at e is =
+      ap (λ (f : Option MatchError). elim f [
+        | Some e ↦ failed e
+        | None ↦
+            answer_in (length subject) (match_answer (setting p matching subject at))
+      ]) is
 
 -- What is told of an error, after which nothing is added.
 pub record IsTold (w : Work) (from : ℕ) (old : List ℕ) (a : Answer) (result : Result Search SubstError) : Type 0 where
@@ -95,7 +106,9 @@ module _ (w : Work) (from : ℕ) (old : List ℕ) (a : Answer) (result : Result 
       subst (λ b. IsTold w from old b result) (sym is)
       (subst (IsTold w from old none) (sym same) (record { comes = tt; added = sym (append-nil old); refused = tt }))
 
-  fails : (e : MatchError) → a ≡ failed e → result ≡ Err (search_refusal e) → (let r : Result (List ℕ) SubstError = Err (search_refusal e) in Refuses r (search_refusal e)) → IsTold w from old a result
+  fails : (e : MatchError) → a ≡ failed e → result ≡ Err (search_refusal e)
+      → (let r : Result (List ℕ) SubstError = Err (search_refusal e) in Refuses r (search_refusal e))
+      → IsTold w from old a result
   fails e is same refuses =
       subst (λ b. IsTold w from old b result) (sym is)
       (subst (IsTold w from old (failed e)) (sym same) (record { comes = tt; added = tt; refused = refuses }))
@@ -116,7 +129,8 @@ module _ (w : Work) (from : ℕ) (old : List ℕ) (a : Answer) (result : Result 
   told-as told.Memory is same = memory same
 
 -- What is told of a match says what the search answers.
-pub told-match : (len : ℕ) (a : Answer) (o : Outcome) (s : Search) → a ≡ found o → TellsMatch s o → o.to ≤ len → IsSearch len s a
+pub told-match : (len : ℕ) (a : Answer) (o : Outcome) (s : Search) → a ≡ found o → TellsMatch s o → o.to ≤ len
+    → IsSearch len s a
 told-match len a o (search.Replaced to is_empty) is h within =
     subst (IsSearch len (search.Replaced to is_empty)) (sym is) (h.0, h.1, within)
 told-match len a o search.Nothing is h within = absurd h

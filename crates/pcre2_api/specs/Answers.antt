@@ -16,8 +16,8 @@ pub data Answer : Type 0 where
   -- a match error, by its number
   error : ℤ → Answer
 
--- The numbers of the match errors: of the limits, of a recursion at the same place, and of callouts, which are never met
--- here since they are passed over.
+-- The numbers of the match errors: of the limits, of a recursion at the same place, and of callouts, which are never
+-- met here since they are passed over.
 abbrev pub error_number : PlaceAnswer → ℤ
 error_number MatchLimit = minus 47
 error_number FrameLimit = minus 63

@@ -1,6 +1,7 @@
 -- The texts of a match (pcre2api, "How pcre2_match() returns a string and captured substrings", "Extracting captured
 -- substrings by name").
-use Rattle.std.specs.Prelude.{ℕ, zero, suc, List, [], ◌∷◌, length, Option, Some, None, slice_get, slice_range, if◌then◌else◌, is_some}
+use Rattle.std.specs.Prelude.{ℕ, zero, suc, List, [], ◌∷◌, length, Option, Some, None, slice_get, slice_range}
+use Rattle.std.specs.Prelude.{if◌then◌else◌, is_some}
 use Rattle.std.specs.Option.{option_map, option_and_then}
 use Rattle.std.specs.Str.{bytes_eq}
 use Rattle.pat_tree.specs.declared.names.NameEntry.{NameEntry}

@@ -36,15 +36,16 @@ pub record IsCode (code : CodeParts) (outline : Outline) : Type 0 where
 -- what the text is read as is the code's tree, and no lookbehind of it is refused
 abbrev pub Compiles : Options → List ℕ → CodeParts → Type 0
 Compiles options text code =
-    (code.text ≡ text) × (read options text ≡ Ok (parsed_of code.tree)) × (compiled options text ≡ Ok (pattern_of code.tree))
+    (code.text ≡ text) × (read options text ≡ Ok (parsed_of code.tree))
+    × (compiled options text ≡ Ok (pattern_of code.tree))
 
 -- the fault for which a pattern is refused; want of memory may come at any time
 abbrev pub IsCompileError : Result Pattern Fault → CompileError → Type 0
 IsCompileError pattern (Bad number at) = pattern ≡ Err (record { number = number; at = at })
 IsCompileError pattern Memory = Unit {0}
 
--- A match looks at most so far before its start: as far as a branch of a lookbehind begins, and at one character for `\b`, `\B`
--- and `\A`.
+-- A match looks at most so far before its start: as far as a branch of a lookbehind begins, and at one character for
+-- `\b`, `\B` and `\A`.
 abbrev pub info_of : CodeParts → Info
 info_of code = record {
   groups = greatest (group_numbers code.tree.nodes);

@@ -47,8 +47,8 @@ mark_left g before = elim (fault_in g) [
   | None ↦ last_name (match_answer g).notes
 ]
 
--- Once the answer is let go: the records have never been more than there had been before, or than the frame limit; the room
--- is as it was; and the last name is that of the search, where there is an answer.
+-- Once the answer is let go: the records have never been more than there had been before, or than the frame limit; the
+-- room is as it was; and the last name is that of the search, where there is an answer.
 abbrev pub Leaves : MutBor Workspace → Setting → Type 0 → Fml
 Leaves w g Answered = Rests the_row w (λ left.
     (left.peak ≤ max w.now.peak g.matching.frame_limit)

@@ -34,8 +34,8 @@ pub record AreParts (f : MatchParts) : Type 0 where
   pub caps : All (IsWithin (length f.subject)) f.outcome.caps
   pub groups : length f.outcome.caps ≡ greatest (group_numbers f.code.tree.nodes)
 
--- The options admit the text (pcre2api, "Option bits for pcre2_match()"): NOTEMPTY none that is empty, NOTEMPTY_ATSTART none
--- that is empty at the start, and ENDANCHORED only one that ends where the subject does.
+-- The options admit the text (pcre2api, "Option bits for pcre2_match()"): NOTEMPTY none that is empty, NOTEMPTY_ATSTART
+-- none that is empty at the start, and ENDANCHORED only one that ends where the subject does.
 pub record IsAdmitted (g : Setting) (o : Outcome) : Type 0 where
   pub not_empty : ((o.keep == o.to) && (notempty g || notempty_atstart g && (o.keep == g.start))) ≡ false
   pub at_end : (endanchored g && not (o.to == length g.subject)) ≡ false
@@ -63,9 +63,9 @@ pub record IsFound (g : Setting) (f : MatchParts) : Type 0 where
   pub placed : IsPlaced g f.outcome
   pub admitted : IsAdmitted g f.outcome
 
--- Why there is no match: each refusal has its cause, and where nothing matches the last name is told that was met at any
--- place. A partial match goes from a place at the start or past it to the subject's end. A callout that ends the match is
--- told by its number. Want of memory may come at any time.
+-- Why there is no match: each refusal has its cause, and where nothing matches the last name is told that was met at
+-- any place. A partial match goes from a place at the start or past it to the subject's end. A callout that ends the
+-- match is told by its number. Want of memory may come at any time.
 abbrev pub IsMatchError : Setting → MatchError → Type 0
 IsMatchError g told.BadOffset = fault_in g ≡ Some told.BadOffset
 IsMatchError g (told.BadUtf at) = fault_in g ≡ Some (told.BadUtf at)

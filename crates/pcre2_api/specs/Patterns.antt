@@ -1,4 +1,5 @@
--- Patterns as they are searched for: text → what is read → pattern, and with a subject and a start → what a search is about.
+-- Patterns as they are searched for: text → what is read → pattern, and with a subject and a start → what a search is
+-- about.
 use Rattle.std.specs.Prelude.{ℕ, true, List, pos, Option, Some, None, Result, Ok, Err}
 use Rattle.uni_text.specs.Sets.{word}
 use Rattle.pat_tree.specs.declared.options.Options.{Options}
@@ -12,8 +13,8 @@ use Rattle.pat_lengths.specs.Lookbehinds.{lookbehinds, first_refused}
 use Rattle.pat_lengths.specs.declared.backs.LengthFault.{LengthFault}
 use Rattle.ordered_search.specs.Setting.{Setting, setting_of}
 
--- What a search of a subject from a place on is about: folding is that of Unicode in UTF and else that of ASCII, and word
--- characters under UCP are those of Unicode. Callouts are passed over.
+-- What a search of a subject from a place on is about: folding is that of Unicode in UTF and else that of ASCII, and
+-- word characters under UCP are those of Unicode. Callouts are passed over.
 abbrev pub setting : Pattern → MatchOptions → List ℕ → ℕ → Setting
 setting p matching subject start =
     setting_of p matching subject start (fold_in p.options.utf) (word true) (λ block. pos 0)

@@ -10,8 +10,8 @@ use Rattle.pcre2_api.specs.Answers.{none, search_answer}
 use Rattle.pcre2_api.specs.Compiled.{CodeParts}
 use Rattle.pcre2_api.specs.Matched.{search_of}
 
--- Where no match of the expression begins in a line of a text, of at most so many bytes and without LF, a search of the line,
--- which in UTF is UTF-8, finds no match, and no error.
+-- Where no match of the expression begins in a line of a text, of at most so many bytes and without LF, a search of the
+-- line, which in UTF is UTF-8, finds no match, and no error.
 abbrev pub MissesLines : CodeParts → MatchOptions → ℕ → Re → Type 0
 MissesLines code matching most re =
     (before line after : List ℕ) (answers : Block → ℤ)

@@ -1,6 +1,7 @@
 -- What replacing the matches of a subject gives (pcre2api, "Creating a new string with
 -- substitutions"): the matches, what replaces each, and the text between them.
-use Rattle.std.specs.Prelude.{◌≡◌, ⊤, ℕ, suc, ◌+◌, ◌*◌, ◌==◌, ◌≤◌, ◌&&◌, not, Bool, if◌then◌else◌, List, [], ◌∷◌, ◌++◌, drop, slice_range, Option, Some, None, Result, Ok, Err}
+use Rattle.std.specs.Prelude.{◌≡◌, ⊤, ℕ, suc, ◌+◌, ◌*◌, ◌==◌, ◌≤◌, ◌&&◌, not, Bool, if◌then◌else◌, List, [], ◌∷◌}
+use Rattle.std.specs.Prelude.{◌++◌, drop, slice_range, Option, Some, None, Result, Ok, Err}
 use Rattle.std.specs.Str.{is_utf8}
 use Rattle.std.specs.Str.Lossy.{utf8_valid_len}
 use Rattle.pat_tree.specs.declared.options.MatchOptions.{MatchOptions}
@@ -99,7 +100,8 @@ without_partial matching = record matching { «partial» = Off }
 
 -- The subject with its matches replaced, and their number, or the first refusal: that of the subject
 -- and the start, that of the replacement, and those of the matches in turn.
-abbrev pub substituted : Pattern → List NameEntry → MatchOptions → SubstOptions → List ℕ → ℕ → List ℕ → Result Substituted SubstError
+abbrev pub substituted : Pattern → List NameEntry → MatchOptions → SubstOptions → List ℕ → ℕ → List ℕ
+    → Result Substituted SubstError
 substituted p names matching how subject start replacement =
     elim (start_fault p.options.utf subject start) [
       | Some e ↦ Err (search_refusal e)

@@ -1,6 +1,7 @@
 -- The matches of a subject: the first one, or all of them (pcre2api, "Creating a new string with
 -- substitutions"; pcre2test, "Finding all matches in a string").
-use Rattle.std.specs.Prelude.{ℕ, zero, suc, ◌+◌, ◌*◌, ◌==◌, ◌&&◌, Bool, true, false, if◌then◌else◌, nat_lt, List, [], ◌∷◌, length, Option, Some, None}
+use Rattle.std.specs.Prelude.{ℕ, zero, suc, ◌+◌, ◌*◌, ◌==◌, ◌&&◌, Bool, true, false, if◌then◌else◌, nat_lt, List, []}
+use Rattle.std.specs.Prelude.{◌∷◌, length, Option, Some, None}
 use Rattle.byte_lanes.specs.declared.line_end.EndKind.TheVariants.{CrLf}
 use Rattle.byte_lanes.specs.Newlines.{newline_len, has_crlf}
 use Rattle.uni_text.specs.Characters.{char_at}

@@ -45,7 +45,9 @@ abbrev pub either : Pattern
 either = pattern 2 (group (Some 1) (text "a" & none) & group (Some 2) (text "b" & none) & none)
 
 abbrev pub maybe_second : Pattern
-maybe_second = pattern 2 (seq (group (Some 1) (text "a" & none) & repeat (group (Some 2) (text "x" & none)) 0 (Some 1) false & none) & none)
+maybe_second =
+    pattern 2 (seq (group (Some 1) (text "a" & none) & repeat (group (Some 2) (text "x" & none)) 0 (Some 1) false &
+    none) & none)
 
 pub record WorkedRows : Type 0 where
   pub first : replacing letter plain_subst.PLAIN "<$0>" "abcb" ≡ gives 1 "a<b>cb"
@@ -56,7 +58,8 @@ pub record WorkedRows : Type 0 where
   pub no_match : replacing letter all "-" "ac" ≡ gives 0 "ac"
   pub unset : replacing either plain_subst.PLAIN "$2" "a" ≡ Err Unset
   pub later_unset : replacing either all "$1" "ab" ≡ Err Unset
-  pub default : replacing maybe_second (record plain_subst.PLAIN { extended = true }) "\\u$1${2:-none}" "abc" ≡ gives 1 "Anonebc"
+  pub default : replacing maybe_second (record plain_subst.PLAIN { extended = true }) "\\u$1${2:-none}" "abc" ≡ gives
+      1 "Anonebc"
   pub dollar : replacing letter all "$" "abc" ≡ Err BadReplacement
   pub brace : replacing letter plain_subst.PLAIN "${1" "abc" ≡ Err MissingBrace
   pub no_group : replacing letter plain_subst.PLAIN "$1" "abc" ≡ Err NoGroup

@@ -89,8 +89,8 @@ impl Model for Code {
 }
 
 impl Code {
-    /// Compiles a pattern (pcre2_compile). Refuses it with the first fault of pcre2pattern's rules, counted in bytes from
-    /// the pattern's start, or for want of memory. The faults of lookbehinds, 125 and 187, come after all others.
+    /// Compiles a pattern (pcre2_compile). Refuses it with the first fault of pcre2pattern's rules, counted in bytes
+    /// from the pattern's start, or for want of memory. The faults of lookbehinds, 125 and 187, come after all others.
     pub fn compile(alloc: Global, pattern: &[u8], options: Options) -> Result<Code, CompileError>
         ensures compiled { IfOk result (Compiles options pattern.now) }
         ensures refused { IfErr result (IsCompileError (compiled options pattern.now)) }
@@ -114,9 +114,10 @@ impl Code {
 
     /// Looks for a match from a start on (pcre2_match). Places are in bytes. Any workspace serves, new or used; the
     /// captures of the match are read there as long as it is borrowed. In UTF the whole subject is looked at first
-    /// (pcre2unicode, "Validity of UTF strings"), also that before the start. Under partial matching a partial match is told
-    /// as an error (pcre2partial). At each callout it calls `calls`, and follows the answer (pcre2callout). The workspace
-    /// keeps its room, and the last name that the search met. Needs a subject of fewer than 4,294,967,295 bytes.
+    /// (pcre2unicode, "Validity of UTF strings"), also that before the start. Under partial matching a partial match is
+    /// told as an error (pcre2partial). At each callout it calls `calls`, and follows the answer (pcre2callout). The
+    /// workspace keeps its room, and the last name that the search met. Needs a subject of fewer than 4,294,967,295
+    /// bytes.
     pub fn match_at<'a, C: Callouts>(
         &'a self,
         subject: &'a [u8],
@@ -297,8 +298,8 @@ impl Code {
     }
 
     /// A text that every match takes: a subject of at most `most` bytes in which it stands nowhere has no match, and a
-    /// search of it from its begin passes no limit of `options`. Who has many subjects need not search such ones; in UTF
-    /// they must be UTF-8. None where no such text is known.
+    /// search of it from its begin passes no limit of `options`. Who has many subjects need not search such ones; in
+    /// UTF they must be UTF-8. None where no such text is known.
     pub fn needed(&self, most: u32, options: &MatchOptions) -> Option<ByteText>
         requires { options.now.«partial» ≡ Off }
         ensures { IfSome result (λ text. FindsNone self.now options.now most (sets_of text)) }
@@ -313,9 +314,9 @@ impl Code {
     }
 
     /// An expression of the kit's for lines of at most `most` bytes without LF: such a line in which no match of it
-    /// begins, searched for in the line or in a text that holds the line, has no match, and a search of it from its begin
-    /// passes no limit of `options`. Who has many lines need not search such ones; in UTF they must be UTF-8. None where
-    /// no such expression is known.
+    /// begins, searched for in the line or in a text that holds the line, has no match, and a search of it from its
+    /// begin passes no limit of `options`. Who has many lines need not search such ones; in UTF they must be UTF-8.
+    /// None where no such expression is known.
     pub fn shape(
         &self,
         alloc: Global,

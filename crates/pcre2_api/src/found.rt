@@ -14,8 +14,8 @@ use match_drive::Scratch;
 use pcre2_errors::MatchError;
 use std::marker::Model;
 
-/// A match, with its captures (pcre2api, "How pcre2_match() returns a string and captured substrings"). All places are in
-/// bytes of the subject.
+/// A match, with its captures (pcre2api, "How pcre2_match() returns a string and captured substrings"). All places are
+/// in bytes of the subject.
 #[derive(Drop)]
 pub struct Found<'a> {
     code: &'a Code,

@@ -1,5 +1,5 @@
-//! The library's calls (pcre2api): a pattern is compiled once, and then matched against subjects. What a caller hands to
-//! them or gets from them is handed on here, whichever crate it stands in.
+//! The library's calls (pcre2api): a pattern is compiled once, and then matched against subjects. What a caller hands
+//! to them or gets from them is handed on here, whichever crate it stands in.
 #![tactic(auto)]
 
 mod alike;

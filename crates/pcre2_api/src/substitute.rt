@@ -1,5 +1,6 @@
 //! Replacing what is found (pcre2api, "Creating a new string with substitutions").
-ghost use Rattle.std.specs.Prelude.{◌≡◌, ◌≤◌, ◌<◌, ◌++◌, ◌&&◌, not, true, false, Ok, IfOk, IfErr, OnOk, drop, length, max, pos};
+ghost use Rattle.std.specs.Prelude.{◌≡◌, ◌≤◌, ◌<◌, ◌++◌, ◌&&◌, not, true, false, Ok, IfOk, IfErr, OnOk, drop, length};
+ghost use Rattle.std.specs.Prelude.{max, pos};
 ghost use Rattle.std.specs.Str.{is_utf8};
 ghost use Rattle.std.specs.Str.Lossy.{utf8_valid_len};
 ghost use Rattle.uni_text.specs.Characters.{IsChecked};
@@ -8,7 +9,9 @@ ghost use Rattle.pcre2_errors.specs.declared.subst_error.SubstError.TheVariants 
 ghost use Rattle.pcre2_api.specs.Matched.{search_of, AreParts, IsFound, IsMatchError};
 ghost use Rattle.pcre2_api.specs.Holding.{found_in};
 ghost use Rattle.pcre2_api.specs.Walks.{answer};
-ghost use Rattle.pcre2_api.specs.Substituted.{kept, reading, written_for, all_replaced, searches, substituted, work_of, added_by, search_refusal, IsAdded, IsSearch, Tells, TellsMatch, Refuses};
+ghost use Rattle.pcre2_api.specs.Substituted.{kept, reading, written_for, all_replaced, searches, substituted};
+ghost use Rattle.pcre2_api.specs.Substituted.{work_of, added_by, search_refusal, IsAdded, IsSearch, Tells};
+ghost use Rattle.pcre2_api.specs.Substituted.{TellsMatch, Refuses};
 
 use crate::code::Code;
 use crate::found::{Found, Text};

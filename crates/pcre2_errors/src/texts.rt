@@ -56,8 +56,8 @@ fn text_of(number: u32) -> &'static [u8]
     }
 }
 
-/// What a fault of a pattern means, by its number (pcre2api, "Error codes from pcre2_compile()"). One that is unknown has
-/// the empty text.
+/// What a fault of a pattern means, by its number (pcre2api, "Error codes from pcre2_compile()"). One that is unknown
+/// has the empty text.
 pub fn fault_text(number: i32) -> &'static [u8]
     ensures { result.now ≡ fault_text number }
 {

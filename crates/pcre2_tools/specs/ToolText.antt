@@ -1,5 +1,5 @@
--- What the tool writes: words → the tool that the first one names, the targets that it asks for and what they stand for → its
--- text.
+-- What the tool writes: words → the tool that the first one names, the targets that it asks for and what they stand for
+-- → its text.
 use Rattle.std.specs.Prelude.{◌≡◌, ◌≢◌, ℕ, List, [], ◌∷◌, Bool, true, false, codes, bytes_eq, ⊤}
 use Rattle.pcre_io.specs.Told.{Told}
 use Rattle.pcre_io.specs.Files.{Filed}

@@ -31,8 +31,8 @@ fn is_test(tool: &str) -> bool
 /// Runs the tool that the first word names, `pcre2grep` or `pcre2test`, and answers its status.
 ///
 /// `files` are opened by the names among the words, `input` is the standard input, results go to `out` and messages to
-/// `err`. At status 3 memory lacked, at status 4 a write failed; then each sink holds a part of its text. At every other
-/// status each holds all of it.
+/// `err`. At status 3 memory lacked, at status 4 a write failed; then each sink holds a part of its text. At every
+/// other status each holds all of it.
 pub fn run<F: FileSet, S: Source, O: Sink, E: Sink>(
     alloc: Global,
     words: &[String],
@@ -41,12 +41,11 @@ pub fn run<F: FileSet, S: Source, O: Sink, E: Sink>(
     out: &mut O,
     err: &mut E,
 ) -> u8
-    // The targets that the tool asks for stand for the input that the source stands for, and for the files. For these the
-    // sinks grew by the tool's text, and the answer is its status; or memory lacked or a write failed, and they grew by a
-    // part of it. Unless memory lacked, at most 65,536 bytes past its last line were taken where
-    // pcre2grep's scan of the input ends early, and the source that opening pcre2test's file
-    // answered stands for its input. A file of which it isn't known is absent only where a fault
-    // was counted. An input that is no target is left as it was.
+    // The targets that the tool asks for stand for the input that the source stands for, and for the files. For these
+    // the sinks grew by the tool's text, and the answer is its status; or memory lacked or a write failed, and they
+    // grew by a part of it. Unless memory lacked, at most 65,536 bytes past its last line were taken where pcre2grep's
+    // scan of the input ends early, and the source that opening pcre2test's file answered stands for its input. A file
+    // of which it isn't known is absent only where a fault was counted. An input that is no target is left as it was.
     ensures text { (heard : Input) × Hears (S.tells input.old) (S.tells input.new) heard
         × ((asked : List Target) × ToolAsks (F.tells files.old) (F.tells files.new)
         (map string_bytes words.now) asked

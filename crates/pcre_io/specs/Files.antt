@@ -17,8 +17,8 @@ pub record Directory : Type 0 where
   pub name : List ℕ
   pub entries : List DirEntry
 
--- what a set holds: its files, its directories, the names that it refuses, those that are neither a file's nor a directory's,
--- and those of which it tells the kind alone, so that they are neither opened nor listed
+-- what a set holds: its files, its directories, the names that it refuses, those that are neither a file's nor a
+-- directory's, and those of which it tells the kind alone, so that they are neither opened nor listed
 pub record Contents : Type 0 where
   pub files : List File
   pub tree : List Directory
@@ -37,7 +37,8 @@ file_of name (file ∷ more) = if bytes_eq file.name name then Some file else fi
 
 abbrev pub entries_in : List ℕ → List Directory → Option (List DirEntry)
 entries_in name [] = None
-entries_in name (directory ∷ more) = if bytes_eq directory.name name then Some directory.entries else entries_in name more
+entries_in name (directory ∷ more) = if bytes_eq directory.name name then Some directory.entries else entries_in name
+    more
 
 abbrev pub is_file : List ℕ → List File → Bool
 is_file name files = is_some (file_of name files)

@@ -1,5 +1,6 @@
 -- Files in memory: their directories come from their names.
-use Rattle.std.specs.Prelude.{◌≡◌, ℕ, suc, ◌==◌, Bool, not, if◌then◌else◌, List, [], ◌∷◌, ◌++◌, map, filter, flat_map, fold, bytes_eq, Option, None, Some, string_bytes}
+use Rattle.std.specs.Prelude.{◌≡◌, ℕ, suc, ◌==◌, Bool, not, if◌then◌else◌, List, [], ◌∷◌, ◌++◌, map, filter}
+use Rattle.std.specs.Prelude.{flat_map, fold, bytes_eq, Option, None, Some, string_bytes}
 use Rattle.std.specs.List.{before_first, list_any}
 use Rattle.std.specs.Option.{option_map}
 use Rattle.pcre_io.specs.Files.{File, Directory, Contents, Filed, is_file}
@@ -43,16 +44,21 @@ before_slashes (c ∷ name) =
 
 -- an entry of a directory, by its name
 abbrev pub entry_at : List ℕ → List File → List ℕ → DirEntry
-entry_at directory files name = record { name = name; kind = if is_file (joined directory name) files then kind.File else kind.Dir }
+entry_at directory files name = record {
+  name = name;
+  kind = if is_file (joined directory name) files then kind.File else kind.Dir;
+}
 
 -- with one more entry, unless there is one of its name
 abbrev pub with_entry : List DirEntry → DirEntry → List DirEntry
-with_entry entries entry = if list_any (λ (e : DirEntry). bytes_eq e.name entry.name) entries then entries else entries ++ entry ∷ []
+with_entry entries entry = if list_any (λ (e : DirEntry). bytes_eq e.name entry.name) entries then entries else
+    entries ++ entry ∷ []
 
 -- the names that follow a directory's, each up to its first slash
 abbrev pub names_below : List ℕ → List File → List (List ℕ)
 names_below directory [] = []
-names_below directory (file ∷ more) = elim (below directory file.name) [ None ↦ names_below directory more | Some rest ↦ before_first is_slash rest ∷ names_below directory more ]
+names_below directory (file ∷ more) = elim (below directory file.name)
+    [ None ↦ names_below directory more | Some rest ↦ before_first is_slash rest ∷ names_below directory more ]
 
 -- the entries of a directory, each once
 abbrev pub entries_below : List ℕ → List File → List DirEntry
@@ -61,7 +67,8 @@ entries_below directory files = fold with_entry [] (map (entry_at directory file
 -- A name that is no file's is a directory where a file's name begins with it and a slash.
 abbrev pub tree_of : List File → List Directory
 tree_of files =
-    let names = filter (λ name. not (is_file name files)) (flat_map (λ (file : File). before_slashes file.name) files) in
+    let names = filter (λ name. not (is_file name files)) (flat_map (λ (file : File). before_slashes file.name) files)
+    in
     map (λ name. record { name = name; entries = entries_below name files }) names
 
 -- what files in memory hold, where these names are refused, of kind Other, or closed

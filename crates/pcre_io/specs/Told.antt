@@ -1,5 +1,6 @@
 -- What a source tells of its fault place, and what a sink tells of what it holds and takes.
-use Rattle.std.specs.Prelude.{◌≡◌, ℕ, ◌-◌, ◌≤◌, ◌<◌, List, ◌++◌, take, ⊤, None, Some, Ok, Err, IfOk, MatchResult, Option, Result}
+use Rattle.std.specs.Prelude.{◌≡◌, ℕ, ◌-◌, ◌≤◌, ◌<◌, List, ◌++◌, take, ⊤, None, Some, Ok, Err, IfOk, MatchResult}
+use Rattle.std.specs.Prelude.{Option, Result}
 use Rattle.pcre_io.specs.declared.traits.IoError.{IoError}
 use Rattle.pcre_io.specs.declared.traits.IoError.TheVariants.{Failed, Memory}
 

@@ -34,8 +34,8 @@ pub trait Callouts {
     /// Whether want of memory may refuse a call.
     ghost refuses: { Bool };
 
-    /// Shows a block. The search goes on after 0, fails here after a positive answer, and ends with a negative one (pcre2callout,
-    /// "Return value from callouts"). Want of memory alone refuses it.
+    /// Shows a block. The search goes on after 0, fails here after a positive answer, and ends with a negative one
+    /// (pcre2callout, "Return value from callouts"). Want of memory alone refuses it.
     fn call(&mut self, block: &Block) -> Result<i32, Memory>
         ensures answer { IfOk result (λ n. n ≡ answers self.old block.now) }
         ensures rule { (other : Block) → answers self.new other ≡ answers self.old other }

@@ -1,5 +1,6 @@
 //! Files in memory.
-ghost use Rattle.std.specs.Prelude.{◌≡◌, ◌≤◌, [], map, MatchOption, None, Some, OnErr, OnOk, IfOk, Err, is_some, string_bytes, option_map};
+ghost use Rattle.std.specs.Prelude.{◌≡◌, ◌≤◌, [], map, MatchOption, None, Some, OnErr, OnOk, IfOk, Err, is_some};
+ghost use Rattle.std.specs.Prelude.{string_bytes, option_map};
 ghost use Rattle.pcre_io.specs.Files.{file_of, is_file, opened_file, is_among, kind_of, listed_entries};
 ghost use Rattle.pcre_io.specs.Causes.{Rose};
 ghost use Rattle.pcre_io.specs.MemTree.{Adds, Closes, MakesOther, Refuses, file_view, held_by, held_files, place_of};
@@ -21,8 +22,8 @@ pub struct MemFile {
     pub fail_at: Option<u64>,
 }
 
-/// Files in memory, at most one of a name. A name that is no file's is a directory where a file's name begins with it and
-/// a slash.
+/// Files in memory, at most one of a name. A name that is no file's is a directory where a file's name begins with it
+/// and a slash.
 #[derive(Drop)]
 pub struct MemFiles {
     files: Vec<MemFile>,
@@ -47,8 +48,8 @@ impl MemFiles {
         }
     }
 
-    /// Adds a file, in the place of the one that has its name, if there is one. After `fail_at` of its bytes, where it is
-    /// given, every read of it fails. The set is unchanged after a refusal, which is for want of memory alone.
+    /// Adds a file, in the place of the one that has its name, if there is one. After `fail_at` of its bytes, where it
+    /// is given, every read of it fails. The set is unchanged after a refusal, which is for want of memory alone.
     pub fn add(&mut self, name: String, bytes: Vec<u8>, fail_at: Option<u64>) -> Result<(), Memory>
         ensures ok { OnOk result
             (Adds (record { name = string_bytes name; bytes = bytes.items; fault = fail_at })
@@ -70,8 +71,8 @@ impl MemFiles {
         Ok(())
     }
 
-    /// Opening, listing and asking the kind of this name fail from now on. The set is unchanged after a refusal, which is
-    /// for want of memory alone.
+    /// Opening, listing and asking the kind of this name fail from now on. The set is unchanged after a refusal, which
+    /// is for want of memory alone.
     pub fn refuse(&mut self, name: String) -> Result<(), Memory>
         ensures ok { OnOk result
             (Refuses (string_bytes name) (⟦<MemFiles as FileSet>⟧.tells self.old)
@@ -82,8 +83,8 @@ impl MemFiles {
         self.refused.push(Name::of(name))
     }
 
-    /// This name is of kind Other from now on: it is opened where it is a file's, and never listed. The set is unchanged
-    /// after a refusal, which is for want of memory alone.
+    /// This name is of kind Other from now on: it is opened where it is a file's, and never listed. The set is
+    /// unchanged after a refusal, which is for want of memory alone.
     pub fn make_other(&mut self, name: String) -> Result<(), Memory>
         ensures ok { OnOk result
             (MakesOther (string_bytes name) (⟦<MemFiles as FileSet>⟧.tells self.old)
@@ -94,8 +95,8 @@ impl MemFiles {
         self.others.push(Name::of(name))
     }
 
-    /// Opening and listing this name fail from now on, and its kind is still told. The set is unchanged after a refusal,
-    /// which is for want of memory alone.
+    /// Opening and listing this name fail from now on, and its kind is still told. The set is unchanged after a
+    /// refusal, which is for want of memory alone.
     pub fn close(&mut self, name: String) -> Result<(), Memory>
         ensures ok { OnOk result
             (Closes (string_bytes name) (⟦<MemFiles as FileSet>⟧.tells self.old)
@@ -236,7 +237,10 @@ fn source_of(alloc: Global, file: &MemFile) -> Result<MemSource, IoError>
 impl FileSet for MemFiles {
     type Src = MemSource;
 
-    ghost tells = { λ s. record { contents = Some (held_by (map file_view s.files.items) s.refused s.others s.closed); faults = s.faults } };
+    ghost tells = { λ s. record {
+      contents = Some (held_by (map file_view s.files.items) s.refused s.others s.closed);
+      faults = s.faults;
+    } };
 
     fn open_file(&mut self, alloc: Global, name: &str) -> Result<MemSource, IoError> {
         match self.opened(name) {

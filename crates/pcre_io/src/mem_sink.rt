@@ -54,7 +54,12 @@ fn push_front(held: &mut Vec<u8>, bytes: &[u8], n: usize) -> Result<usize, IoErr
 }
 
 impl Sink for MemSink {
-    ghost tells = { λ s. record { held = Some s.bytes.items; room = Some s.room; piece = Some s.piece; faults = s.faults } };
+    ghost tells = { λ s. record {
+      held = Some s.bytes.items;
+      room = Some s.room;
+      piece = Some s.piece;
+      faults = s.faults;
+    } };
 
     fn write(&mut self, bytes: &[u8]) -> Result<usize, IoError> {
         let most = bytes.len().min(self.piece as usize);

@@ -1,5 +1,6 @@
 //! The directories of files in memory, which come from the names of the files.
-ghost use Rattle.std.specs.Prelude.{◌≡◌, ◌∷◌, ◌++◌, bytes_eq, map, string_bytes, option_copied, is_some, Some, Err, IfOk, OnErr, OnOk};
+ghost use Rattle.std.specs.Prelude.{◌≡◌, ◌∷◌, ◌++◌, bytes_eq, map, string_bytes, option_copied, is_some, Some, Err};
+ghost use Rattle.std.specs.Prelude.{IfOk, OnErr, OnOk};
 ghost use Rattle.std.specs.List.{before_first, list_any};
 ghost use Rattle.pcre_io.specs.Files.{File};
 ghost use Rattle.pcre_io.specs.declared.entries.DirEntry.{DirEntry};

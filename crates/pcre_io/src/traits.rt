@@ -31,8 +31,8 @@ pub trait Source {
         ensures stop { StopsAt (tells self.old).stop (tells self.new).stop result (length buf.old) }
         ensures cause { CountsFaults (tells self.old).faults (tells self.new).faults result };
 
-    /// Whether a read may wait for bytes that are still to come, as at a terminal or a pipe. A source that leaves this out
-    /// says so.
+    /// Whether a read may wait for bytes that are still to come, as at a terminal or a pipe. A source that leaves this
+    /// out says so.
     fn may_wait(&self) -> bool {
         true
     }
@@ -54,8 +54,8 @@ pub trait Sink {
         ensures piece { TakesPiece (tells self.old).piece (tells self.new).piece result }
         ensures cause { CountsRefusals (tells self.old).faults (tells self.new).faults result };
 
-    /// Sends on what was gathered, as before a read that may wait. What the sink holds stays. It fails only where a fault
-    /// was counted.
+    /// Sends on what was gathered, as before a read that may wait. What the sink holds stays. It fails only where a
+    /// fault was counted.
     fn flush(&mut self) -> Result<(), Failed>
         ensures bytes { Keeps (tells self.old).held (tells self.new).held }
         ensures room { (tells self.new).room ≡ (tells self.old).room }

@@ -1,19 +1,19 @@
 //! A tree as a short text.
 //!
-//! - A letter or digit stands for itself, another printable character stands in quotes, as `'*'`, and any other one by two
-//!   hexadecimal digits, as `'0a'`. Before a character, a class or a reference `~` stands for any case.
-//! - `.` takes no newline, `any` takes every character. `[a-z '_' !Digit]` is a class: its parts, a set by its name, with `!`
-//!   where it is reversed; `[^a]` is a negated one.
-//! - `<a b>` is a sequence, `-` takes nothing. `(a|b)` is a plain group, `(1:a|b)` a capturing one. The whole tree is a plain
-//!   group.
-//! - `a{2,5}` is a repeat of what takes one character, `(a)*{2,5}` a repeat of another part. A lazy one has `?` at its end, one
-//!   without a maximum is `{2,}`.
+//! - A letter or digit stands for itself, another printable character stands in quotes, as `'*'`, and any other one by
+//! two hexadecimal digits, as `'0a'`. Before a character, a class or a reference `~` stands for any case.
+//! - `.` takes no newline, `any` takes every character. `[a-z '_' !Digit]` is a class: its parts, a set by its name,
+//! with `!` where it is reversed; `[^a]` is a negated one.
+//! - `<a b>` is a sequence, `-` takes nothing. `(a|b)` is a plain group, `(1:a|b)` a capturing one. The whole tree is a
+//! plain group.
+//! - `a{2,5}` is a repeat of what takes one character, `(a)*{2,5}` a repeat of another part. A lazy one has `?` at its
+//! end, one without a maximum is `{2,}`.
 //! - `(>a|b)` is an atomic group, `(=a)` and `(!a)` are lookaheads, `(*a)` one that isn't atomic. `(?[1,2]a|b)` is a
-//!   conditional group on groups, `(?Ra)` one on any call, `(?R[1]a)` one on a call of a group, `(?nevera)` a DEFINE, and
-//!   `(?(=a)b)` one on a lookaround.
+//! conditional group on groups, `(?Ra)` one on any call, `(?R[1]a)` one on a call of a group, `(?nevera)` a DEFINE, and
+//! `(?(=a)b)` one on a lookaround.
 //! - `=1` is a reference, `=1=2` one to the first set of two groups.
-//! - `^` and `$` have an `m` where they hold at lines, `$` an `e` where it holds at the subject's end alone. Other assertions,
-//!   `\R` and `\K` are written as in patterns.
+//! - `^` and `$` have an `m` where they hold at lines, `$` an `e` where it holds at the subject's end alone. Other
+//! assertions, `\R` and `\K` are written as in patterns.
 //! - `%Mark:n` is a verb with its name, `%Fail` one without a name.
 //! - After the tree stand the names, as `name=1`.
 use pat_tree::{

@@ -1,7 +1,7 @@
 //! Many short patterns: each is read, or is refused at a place within it.
 //!
-//! Of the 10,000 patterns of the sequence 98 have forms that are left out. Of the others the C library, 10.42, accepts the same
-//! 1,671, with as many groups, and refuses the same.
+//! Of the 10,000 patterns of the sequence 98 have forms that are left out. Of the others the C library, 10.42, accepts
+//! the same 1,671, with as many groups, and refuses the same.
 use pat_build::{ReadError, read};
 use pat_tree::Options;
 use std::alloc::Global;

@@ -1,5 +1,6 @@
 -- Of branches that begin with characters apart one is left at most.
-use Rattle.std.proofs.Common.{◌≡◌, ◌∙◌, ℕ, ◌+◌, ◌≤◌, Bool, true, false, List, [], ◌∷◌, Option, Some, None, ◌⊎◌, inl, inr, refl, sym, ap, subst, arith}
+use Rattle.std.proofs.Common.{◌≡◌, ◌∙◌, ℕ, ◌+◌, ◌≤◌, Bool, true, false, List, [], ◌∷◌, Option, Some, None, ◌⊎◌, inl}
+use Rattle.std.proofs.Common.{inr, refl, sym, ap, subst, arith}
 use Rattle.std.specs.Prelude.{◌||◌, nat_le, nat_lt}
 use Rattle.std.proofs.lemmas.Bool.{and_parts}
 use Rattle.pat_tree.specs.declared.options.PartialMode.TheVariants.{Off}
@@ -9,14 +10,16 @@ use Rattle.pat_tree.specs.Nested as tree
 use Rattle.pat_tree.specs.Nested.{Nested, Row}
 use Rattle.match_items.specs.Items.{after_item, item_reaches}
 use Rattle.pat_bounds.specs.declared.bounds.Bound.{Bound}
-use Rattle.pat_bounds.specs.Bounds.{at, greater, or_apart, lacks, lacks_item, are_apart, item_of, item_ahead, first_item, begins_apart, all_begin_apart, is_alone}
+use Rattle.pat_bounds.specs.Bounds.{at, greater, or_apart, lacks, lacks_item, are_apart, item_of, item_ahead}
+use Rattle.pat_bounds.specs.Bounds.{first_item, begins_apart, all_begin_apart, is_alone}
 use Rattle.ordered_search.specs.Stream.{State, is_next_branch, Stream, Search, ◌or_else◌, go_on, catch}
 use Rattle.ordered_search.specs.Setting.{Setting, held}
 use Rattle.ordered_search.specs.Tests.{goes_to, run_one}
 use Rattle.ordered_search.specs.Parts.{Searches, in_order, choices}
 use Rattle.ordered_search.specs.Run.{level, levels}
 use Rattle.search_needs.proofs.TameStreams.{state_count, states_both, states_caught}
-use Rattle.search_needs.proofs.SilentStreams.{Silent, silent_nothing, silent_halt, silent_step, silent_if, silent_or_else, silent_before, silent_catch}
+use Rattle.search_needs.proofs.SilentStreams.{Silent, silent_nothing, silent_halt, silent_step, silent_if}
+use Rattle.search_needs.proofs.SilentStreams.{silent_or_else, silent_before, silent_catch}
 use Rattle.search_needs.proofs.Growing.{at_greater}
 use Rattle.search_needs.proofs.Onward.{onward_choices}
 use Rattle.search_needs.proofs.Bounded.{size, unreached, held_is, one_more, FitsIn, fits_or_else}
@@ -67,7 +70,8 @@ module _ (g : Setting) (off : g.matching.«partial» ≡ Off) where
       both = states_both first (choices g (f' ∷ fs) s)
 
       same : state_count first ≡ state_count (f t)
-      same = ap (λ x. state_count x) (held_is g off 1 s (λ t. catch is_next_branch (f t)) (omega (arith, le, room))) ∙ states_caught is_next_branch (f t)
+      same = ap (λ x. state_count x) (held_is g off 1 s (λ t. catch is_next_branch (f t)) (omega (arith, le, room)))
+          ∙ states_caught is_next_branch (f t)
 
       few : state_count (f t) ≤ at a.states (size g off)
       few = (h.0 t (omega (arith, le, room))).states
@@ -75,14 +79,19 @@ module _ (g : Setting) (off : g.matching.«partial» ≡ Off) where
       later : state_count (choices g (f' ∷ fs) s) ≤ at b.states (size g off)
       later = (k.0 s (omega (arith, le, room))).states
 
-      most : (at a.states (size g off) ≤ at (greater a.states b.states) (size g off)) × (at b.states (size g off) ≤ at (greater a.states b.states) (size g off))
+      most : (at a.states (size g off) ≤ at (greater a.states b.states) (size g off))
+          × (at b.states (size g off) ≤ at (greater a.states b.states) (size g off))
       most = at_greater a.states b.states (size g off) (omega arith)
 
   pub fits_or_apart : (a b : Bound) (f : Search) (fs : List Search) → FitsIn g off a f
       → FitsIn g off b (choices g fs) → LeftAlone g f fs
       → FitsIn g off (or_apart a b) (choices g (f ∷ fs))
   fits_or_apart a b f fs h k alone = (
-    λ s le. let w = (fits_or_else g off a b f fs h k).0 s le in record { steps = w.steps; states = apart_states a b f fs h k alone s le; tame = w.tame },
+    λ s le. let w = (fits_or_else g off a b f fs h k).0 s le in record {
+      steps = w.steps;
+      states = apart_states a b f fs h k alone s le;
+      tame = w.tame;
+    },
     onward_choices g f fs h.1 k.1,
   )
 
@@ -117,12 +126,14 @@ module _ (g : Setting) (off : g.matching.«partial» ≡ Off) where
         → Silent (run_one g item s)
     unfolding run_one
     one_silent item s none =
-        subst Silent (sym (unreached g off (item_reaches g.scene item s.place) s _ ∙ ap (λ (o : Option ℕ). goes_to o s) none)) silent_nothing
+        subst Silent (sym (unreached g off (item_reaches g.scene item s.place) s _
+        ∙ ap (λ (o : Option ℕ). goes_to o s) none)) silent_nothing
 
     item_silent : (t : Nested) (item : Item) → item_of t ≡ Some item → (s : State)
         → after_item g.scene item s.place ≡ None → Silent (level g below t s)
     unfolding level
-    item_silent (tree.one it) item e s none = one_silent it s (subst (λ (i : Item). after_item g.scene i s.place ≡ None) (sym (same_item it item e)) none)
+    item_silent (tree.one it) item e s none =
+        one_silent it s (subst (λ (i : Item). after_item g.scene i s.place ≡ None) (sym (same_item it item e)) none)
     item_silent (tree.seq us) item e s none = absurd cc
     item_silent tree.empty item e s none = absurd cc
     item_silent tree.line_break item e s none = absurd cc
@@ -143,7 +154,8 @@ module _ (g : Setting) (off : g.matching.«partial» ≡ Off) where
         → after_item g.scene item s.place ≡ None → Silent (in_order (levels g below ts) s)
     unfolding level in_order
     row_silent tree.none item e s none = absurd cc
-    row_silent (tree.more t ts) item e s none = silent_before (level g below t s) (go_on (in_order (levels g below ts))) (item_silent t item e s none)
+    row_silent (tree.more t ts) item e s none = silent_before (level g below t s)
+        (go_on (in_order (levels g below ts))) (item_silent t item e s none)
 
     first_silent : (t : Nested) (item : Item) → first_item t ≡ Some item → (s : State)
         → after_item g.scene item s.place ≡ None → Silent (level g below t s)
@@ -183,11 +195,15 @@ module _ (g : Setting) (off : g.matching.«partial» ≡ Off) where
     unfolding level choices held
     others_silent item tree.none h s q taken = silent_nothing
     others_silent item (tree.more t tree.none) h s q taken =
-        let parts = and_parts _ _ h in silent_step _ (silent_catch is_next_branch _ (begun_silent item t parts.0 s q taken))
+        let parts = and_parts _ _ h in
+        silent_step _ (silent_catch is_next_branch _ (begun_silent item t parts.0 s q taken))
     others_silent item (tree.more t (tree.more u ts)) h s q taken =
-        let parts = and_parts (begins_apart g.class_has item (first_item t)) (all_begin_apart g.class_has item (tree.more u ts)) h in
+        let parts = and_parts (begins_apart g.class_has item (first_item t))
+        (all_begin_apart g.class_has item (tree.more u ts)) h in
         silent_step _ (silent_or_else _ _
-        (silent_if (nat_le (s.units + 1) g.matching.frame_limit) _ _ (silent_catch is_next_branch _ (begun_silent item t parts.0 (record s { units = s.units + 1 }) q taken)) (silent_halt _))
+        (silent_if (nat_le (s.units + 1) g.matching.frame_limit) _ _
+        (silent_catch is_next_branch _ (begun_silent item t parts.0 (record s { units = s.units + 1 }) q taken))
+        (silent_halt _))
         (others_silent item (tree.more u ts) parts.1 s q taken))
 
     pub left_alone : (t : Nested) (ts : Row) → is_alone g.class_has (first_item t) ts ≡ true
@@ -200,6 +216,7 @@ module _ (g : Setting) (off : g.matching.«partial» ≡ Off) where
         by_item (Some item) e k = λ s. by_place s (after_item g.scene item s.place) refl
           where
             by_place : (s : State) (o : Option ℕ) → after_item g.scene item s.place ≡ o
-                → ((n : ℕ) → Silent (level g below t (record s { units = n }))) ⊎ Silent (choices g (levels g below ts) s)
+                → ((n : ℕ) → Silent (level g below t (record s { units = n }))) ⊎ Silent
+                (choices g (levels g below ts) s)
             by_place s None none = inl (λ n. first_silent t item e (record s { units = n }) none)
             by_place s (Some q) taken = inr (others_silent item ts k s q taken)

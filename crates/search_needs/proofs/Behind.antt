@@ -1,5 +1,6 @@
 -- Where a text doesn't stand at the distance at which every match takes it, the place fails.
-use Rattle.std.proofs.Common.{◌≡◌, ℕ, zero, suc, ◌+◌, ◌-◌, ◌<◌, ◌≤◌, Bool, true, false, List, [], ◌∷◌, length, drop, replicate, Option, Some, None, inl, inr, refl, sym, subst, arith}
+use Rattle.std.proofs.Common.{◌≡◌, ℕ, zero, suc, ◌+◌, ◌-◌, ◌<◌, ◌≤◌, Bool, true, false, List, [], ◌∷◌, length, drop}
+use Rattle.std.proofs.Common.{replicate, Option, Some, None, inl, inr, refl, sym, subst, arith}
 use Rattle.std.specs.Prelude.{IsTrue, slice_index}
 use Rattle.std.proofs.lemmas.Bool.{eqb-true}
 use Rattle.std.proofs.lemmas.List.{get_or-replicate}
@@ -17,7 +18,8 @@ use Rattle.pat_bounds.specs.Bounds.{at, followed, grouped, both, change, bound, 
 use Rattle.pat_needs.specs.Needs.{may_take, IsShort}
 use Rattle.pat_needs.specs.Distances.{IsLong, NeedsFrom, NeedsAt}
 use Rattle.pat_needs.specs.Texts.{Stands}
-use Rattle.ordered_search.specs.Stream.{State, How, reached, accepted, note, state, step, Stream, Search, ends, ◌▸◌, each, go_on}
+use Rattle.ordered_search.specs.Stream.{State, How, reached, accepted, note, state, step, Stream, Search, ends, ◌▸◌}
+use Rattle.ordered_search.specs.Stream.{each, go_on}
 use Rattle.ordered_search.specs.Setting.{Setting, match_limit}
 use Rattle.ordered_search.specs.Tests.{run_one}
 use Rattle.ordered_search.specs.Parts.{Searches, in_order, branches, run_group}
@@ -31,7 +33,8 @@ use Rattle.search_needs.proofs.Growing.{at_plus}
 use Rattle.search_needs.proofs.Bounded.{FitsSome}
 use Rattle.search_needs.proofs.FitsLevels.{fits_level}
 use Rattle.search_needs.proofs.Landing.{Lands, lands_to, lands_reach_if, lands_anchor, lands_many, AreAt, none_at}
-use Rattle.search_needs.proofs.Needed.{IsBehind, taken_short, InText, SilentUnder, silent_ahead, silent_turn, silent_level, in_text, under_fails}
+use Rattle.search_needs.proofs.Needed.{IsBehind, taken_short, InText, SilentUnder, silent_ahead, silent_turn}
+use Rattle.search_needs.proofs.Needed.{silent_level, in_text, under_fails}
 
 every : List Bool
 every = replicate 256 true
@@ -155,8 +158,10 @@ module _ (g : Setting) (sets : List (List Bool)) (off : g.matching.«partial» �
         subst (λ m. Lands (s.place + m) (run_one g item s)) (sym h.0) (lands_one item h.1 s here)
     lands_level n (tree.one_repeat item low (Some high) lazily) h s here =
         lands_many g off (s.place + n) item low (Some high) lazily s
-        (subst (λ m. AreAt (s.place + m) (drop low (s.place ∷ run_places g.scene item (length g.subject) (Some high) s.place))) (sym h.0)
-        (subst (λ m. AreAt (s.place + low) (drop low (s.place ∷ run_places g.scene item (length g.subject) (Some m) s.place))) h.1.0
+        (subst (λ m. AreAt (s.place + m)
+        (drop low (s.place ∷ run_places g.scene item (length g.subject) (Some high) s.place))) (sym h.0)
+        (subst (λ m. AreAt (s.place + low)
+        (drop low (s.place ∷ run_places g.scene item (length g.subject) (Some m) s.place))) h.1.0
         (run_at low (length g.subject) item h.1.1 s.place here)))
     lands_level n (tree.anchor kind) h s here =
         let stays : s.place ≡ s.place + n = omega (arith, h) in
@@ -192,9 +197,12 @@ module _ (g : Setting) (sets : List (List Bool)) (off : g.matching.«partial» �
         at_none d (bound_in_turn g.class_has (tree.more t ts)) (in_order (levels g below (tree.more t ts))) h.0
         (silent_turn g sets off folds text small false target missing below deeper fits (tree.more t ts) h.1)
     silent_from d (tree.more t ts) (inr h) =
-        subst (λ m. SilentAt m (bound_in_turn g.class_has (tree.more t ts)) (in_order (levels g below (tree.more t ts)))) (sym h.2.0)
-        (silent_ahead g sets off folds text small false target missing below deeper fits (IsBefore (h.0 + h.1)) t ts (bound_in_turn g.class_has ts) _
-        (silent_behind h.0 h.1 (bound g.class_has t) (bound_in_turn g.class_has ts) (level g below t) (levels g below ts)
+        subst (λ m. SilentAt m (bound_in_turn g.class_has (tree.more t ts))
+        (in_order (levels g below (tree.more t ts)))) (sym h.2.0)
+        (silent_ahead g sets off folds text small false target missing below deeper fits (IsBefore (h.0 + h.1)) t ts
+        (bound_in_turn g.class_has ts) _
+        (silent_behind h.0 h.1 (bound g.class_has t) (bound_in_turn g.class_has ts) (level g below t)
+        (levels g below ts)
         (fits t) (λ utf. forward_level g (text utf) below (deeper utf) None t)
         (lands_level h.0 t h.2.1.0) (silent_from h.1 ts h.2.1.1)))
 
@@ -212,14 +220,16 @@ module _ (g : Setting) (sets : List (List Bool)) (off : g.matching.«partial» �
         (silent_level g sets off folds text small false target missing below deeper fits t h.1)
     silent_at d t (inr h) =
         subst (λ u. SilentAt d (bound g.class_has u) (level g below u)) (sym h.1.0)
-        (silent_group d (bound_in_turn g.class_has h.0) (branches g (levels g below (tree.more (tree.seq h.0) tree.none)))
+        (silent_group d (bound_in_turn g.class_has h.0)
+        (branches g (levels g below (tree.more (tree.seq h.0) tree.none)))
         (silent_from d h.0 h.1.1))
 
 pub begin_law : BeginLaw
 begin_law g sets d b p h =
     let missing : (k : ℕ) → (false ≡ false → k ≡ p + d) → ¬ Stands sets g.subject k =
     λ k at stands. h.missing (subst (Stands sets g.subject) (at refl) stands) in
-    under_fails g sets h.off h.folds h.text h.small false (p + d) missing b h.steps h.units h.begun g.whole h.bounded (λ s silent. refl)
+    under_fails g sets h.off h.folds h.text h.small false (p + d) missing b h.steps h.units h.begun g.whole h.bounded
+    (λ s silent. refl)
     (IsBefore g sets h.off h.folds h.text h.small (p + d) missing d) p
     (in_text g sets h.off h.folds h.text h.small false (p + d) missing b h.steps h.units h.begun p h.here, refl)
     (silent_at g sets h.off h.folds h.text h.small (p + d) missing (run g (match_limit g))

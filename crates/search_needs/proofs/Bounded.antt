@@ -1,5 +1,6 @@
 -- Searches within bounds: tests, repeats of an item, parts in turn, branches and groups.
-use Rattle.std.proofs.Common.{◌≡◌, ℕ, zero, suc, ◌+◌, ◌-◌, ◌<◌, ◌≤◌, Bool, true, false, List, [], ◌∷◌, length, drop, reverse, Option, Some, None, refl, sym, ap, subst, arith}
+use Rattle.std.proofs.Common.{◌≡◌, ℕ, zero, suc, ◌+◌, ◌-◌, ◌<◌, ◌≤◌, Bool, true, false, List, [], ◌∷◌, length, drop}
+use Rattle.std.proofs.Common.{reverse, Option, Some, None, refl, sym, ap, subst, arith}
 use Rattle.std.specs.Prelude.{◌==◌}
 use Rattle.std.proofs.lemmas.Bool.{le-leb, eqb-false}
 use Rattle.std.proofs.lemmas.List.{length-reverse}
@@ -7,35 +8,49 @@ use Rattle.std.proofs.Common.{length-drop}
 use Rattle.pat_tree.specs.declared.options.PartialMode.TheVariants.{Off}
 use Rattle.pat_tree.specs.declared.nodes.Item.{Item}
 use Rattle.pat_tree.specs.declared.nodes.AnchorKind.{AnchorKind}
-use Rattle.match_items.specs.Items.{one_less, is_none_left, after_item, item_reaches, run_places, longest_run, after_ref, ref_reaches, holds, anchor_reaches}
+use Rattle.match_items.specs.Items.{one_less, is_none_left, after_item, item_reaches, run_places, longest_run}
+use Rattle.match_items.specs.Items.{after_ref, ref_reaches, holds, anchor_reaches}
 use Rattle.pat_bounds.specs.declared.bounds.Growth.{Growth}
 use Rattle.pat_bounds.specs.declared.bounds.Bound.{Bound}
-use Rattle.pat_bounds.specs.Bounds.{at, steady, plus, product, once, never, offered, turns, followed, or_later, closed, grouped}
+use Rattle.pat_bounds.specs.Bounds.{at, steady, plus, product, once, never, offered, turns, followed, or_later}
+use Rattle.pat_bounds.specs.Bounds.{closed, grouped}
 use Rattle.frame_store.specs.Captures.{capture}
-use Rattle.ordered_search.specs.Stream.{State, exhausted, reached, by_halt, too_many_units, Stream, Search, ends, nothing, gives, no_ending, is_next_branch, fails_alone, fails_inside, captured}
+use Rattle.ordered_search.specs.Stream.{State, exhausted, reached, by_halt, too_many_units, Stream, Search, ends}
+use Rattle.ordered_search.specs.Stream.{nothing, gives, no_ending, is_next_branch, fails_alone, fails_inside}
+use Rattle.ordered_search.specs.Stream.{captured}
 use Rattle.ordered_search.specs.Setting.{Setting, held, hold, reach, reach_if}
-use Rattle.ordered_search.specs.Tests.{move_to, goes_to, run_one, run_break, run_ref, run_anchor, offers, greedy, offer_and, reluctant, lazy_run, run_many}
+use Rattle.ordered_search.specs.Tests.{move_to, goes_to, run_one, run_break, run_ref, run_anchor, offers, greedy}
+use Rattle.ordered_search.specs.Tests.{offer_and, reluctant, lazy_run, run_many}
 use Rattle.ordered_search.specs.Parts.{in_order, choices, run_group, run_atomic, run_look, back_to, forget_passed}
-use Rattle.search_needs.proofs.TameStreams.{Within, within_more, within_nothing, within_gives, within_if, within_step, within_or_else, within_each, within_and_then, within_decide, within_catch}
+use Rattle.search_needs.proofs.TameStreams.{Within, within_more, within_nothing, within_gives, within_if}
+use Rattle.search_needs.proofs.TameStreams.{within_step, within_or_else, within_each, within_and_then, within_decide}
+use Rattle.search_needs.proofs.TameStreams.{within_catch}
 use Rattle.search_needs.proofs.Growing.{at_steady, at_line, at_plus, at_product}
-use Rattle.search_needs.proofs.Onward.{Onward, GoesOn, onward_ends, onward_many, onward_turn, onward_choices, onward_group, onward_atomic, onward_look}
+use Rattle.search_needs.proofs.Onward.{Onward, GoesOn, onward_ends, onward_many, onward_turn, onward_choices}
+use Rattle.search_needs.proofs.Onward.{onward_group, onward_atomic, onward_look}
 
 -- Runs of an item have no more places than bytes, and no more than the maximum.
 
-run_short : (g : Setting) (item : Item) (n : ℕ) (most : Option ℕ) (p : ℕ) → length (run_places g.scene item n most p) ≤ n
+run_short : (g : Setting) (item : Item) (n : ℕ) (most : Option ℕ) (p : ℕ)
+    → length (run_places g.scene item n most p) ≤ n
 unfolding run_places
 run_short g item zero most p = omega arith
 run_short g item (suc n) most p = by_left (is_none_left most) (λ q. run_short g item n (one_less most) q)
   where
     by_next : (o : Option ℕ) → ((q : ℕ) → length (run_places g.scene item n (one_less most) q) ≤ n) →
-        length (elim o as (λ _. List ℕ) [ None ↦ [] | Some q ↦ q ∷ run_places g.scene item n (one_less most) q ]) ≤ suc n
+        length (elim o as (λ _. List ℕ) [ None ↦ [] | Some q ↦ q ∷ run_places g.scene item n (one_less most) q ])
+        ≤ suc n
     by_next None k = omega arith
     by_next (Some q) k = let h = k q in omega (arith, h)
 
     by_left : (b : Bool) → ((q : ℕ) → length (run_places g.scene item n (one_less most) q) ≤ n) →
         length (elim b as (λ _. List ℕ) [
           | true ↦ []
-          | false ↦ elim (after_item g.scene item p) [ None ↦ [] | Some q ↦ q ∷ run_places g.scene item n (one_less most) q ]
+          | false ↦ elim (after_item g.scene item p) [
+            | None ↦ []
+            | Some q ↦
+                q ∷ run_places g.scene item n (one_less most) q
+          ]
         ]) ≤ suc n
     by_left true k = omega arith
     by_left false k = by_next (after_item g.scene item p) k
@@ -53,7 +68,11 @@ run_most g item (suc n) m p = by_left (m == 0) refl (λ q. run_most g item n (m 
     by_left : (b : Bool) → (m == 0) ≡ b → ((q : ℕ) → length (run_places g.scene item n (Some (m - 1)) q) ≤ m - 1) →
         length (elim b as (λ _. List ℕ) [
           | true ↦ []
-          | false ↦ elim (after_item g.scene item p) [ None ↦ [] | Some q ↦ q ∷ run_places g.scene item n (Some (m - 1)) q ]
+          | false ↦ elim (after_item g.scene item p) [
+            | None ↦ []
+            | Some q ↦
+                q ∷ run_places g.scene item n (Some (m - 1)) q
+          ]
         ]) ≤ m
     by_left true e k = omega arith
     by_left false e k = let h = eqb-false m 0 e in by_next (omega (arith, h)) (after_item g.scene item p) k
@@ -103,7 +122,8 @@ module _ (g : Setting) (off : g.matching.«partial» ≡ Off) where
   reached_within : (p r u : ℕ) (b : Bool) (s : State) (x : Stream) → Within p r u x → Within p r u (reach_if g b s x)
   reached_within p r u b s x h = subst (Within p r u) (sym (unreached b s x)) h
 
-  pub held_is : (n : ℕ) (s : State) (f : Search) → s.units + n ≤ g.matching.frame_limit → held g n s f ≡ f (record s { units = s.units + n })
+  pub held_is : (n : ℕ) (s : State) (f : Search) → s.units + n ≤ g.matching.frame_limit
+      → held g n s f ≡ f (record s { units = s.units + n })
   unfolding held
   held_is n s f h =
       ap (λ b. elim b [ true ↦ f (record s { units = s.units + n }) | false ↦ ends (by_halt too_many_units) ])
@@ -133,11 +153,13 @@ module _ (g : Setting) (off : g.matching.«partial» ≡ Off) where
 
   pub once_ref : (ns : List ℕ) (caseless : Bool) → Once (run_ref g ns caseless)
   unfolding run_ref
-  once_ref [] caseless s = within_if 0 1 _ g.options.match_unset_backref _ _ (within_gives 0 _ s (omega arith)) (within_nothing 0 1 _)
+  once_ref [] caseless s = within_if 0 1 _ g.options.match_unset_backref _ _ (within_gives 0 _ s (omega arith))
+      (within_nothing 0 1 _)
   once_ref (m ∷ ns) caseless s = elim (capture s.caps m)
       as (λ o. Within 0 1 s.units (elim o [
         | None ↦ run_ref g ns caseless s
-        | Some span ↦ reach_if g (ref_reaches g.scene span.from span.to caseless s.place) s (goes_to (after_ref g.scene span.from span.to caseless s.place) s)
+        | Some span ↦ reach_if g (ref_reaches g.scene span.from span.to caseless s.place) s
+            (goes_to (after_ref g.scene span.from span.to caseless s.place) s)
       ])) [
         | None ↦ once_ref ns caseless s
         | Some span ↦ reached_within 0 1 _ _ s _ (within_goes _ s)
@@ -159,15 +181,19 @@ module _ (g : Setting) (off : g.matching.«partial» ≡ Off) where
       within_more _ _ _ _ _ _ _ (omega arith) (omega arith) (omega arith)
       (within_step _ _ _ _ (within_or_else 0 1 _ _ _ _ _ (fits_hold (move_to p s) le) (fits_offers (q ∷ ps) s le)))
 
-  within_offer : (b : Bool) (n : ℕ) (s : State) (x : Stream) → s.units + 1 ≤ g.matching.frame_limit → Within n n (s.units + 1) x →
+  within_offer : (b : Bool) (n : ℕ) (s : State) (x : Stream) → s.units + 1 ≤ g.matching.frame_limit
+      → Within n n (s.units + 1) x →
       Within (1 + n) (1 + n) (s.units + 1) (offer_and g b s x)
   within_offer true n s x le h =
-      within_more _ _ _ _ _ _ _ (omega arith) (omega arith) (omega arith) (within_step 0 1 _ _ (within_gives 0 (s.units + 1) s (omega arith)))
+      within_more _ _ _ _ _ _ _ (omega arith) (omega arith) (omega arith)
+      (within_step 0 1 _ _ (within_gives 0 (s.units + 1) s (omega arith)))
   within_offer false n s x le h =
       within_step n (1 + n) _ _
-      (within_more (0 + n) (1 + n) (s.units + 1) n (1 + n) (s.units + 1) _ (omega arith) (omega arith) (omega arith) (within_or_else 0 1 n n _ _ _ (fits_hold s le) h))
+      (within_more (0 + n) (1 + n) (s.units + 1) n (1 + n) (s.units + 1) _ (omega arith) (omega arith) (omega arith)
+      (within_or_else 0 1 n n _ _ _ (fits_hold s le) h))
 
-  fits_reluctant : (item : Item) (left : Option ℕ) (ps : List ℕ) → Fits (length ps) (length ps) 1 (reluctant g item left ps)
+  fits_reluctant : (item : Item) (left : Option ℕ) (ps : List ℕ)
+      → Fits (length ps) (length ps) 1 (reluctant g item left ps)
   unfolding reluctant
   fits_reluctant item left [] s le = within_nothing _ _ _
   fits_reluctant item left (p ∷ ps) s le =
@@ -176,7 +202,8 @@ module _ (g : Setting) (off : g.matching.«partial» ≡ Off) where
       (reached_within _ _ _ (item_reaches g.scene item p) s _ (fits_reluctant item (one_less left) ps s le)))
 
   -- so many places are offered
-  pub offered_few : (item : Item) (low : ℕ) (high : Option ℕ) (p : ℕ) → length (drop low (p ∷ longest_run g.scene item high p)) ≤ at (turns low high) size
+  pub offered_few : (item : Item) (low : ℕ) (high : Option ℕ) (p : ℕ)
+      → length (drop low (p ∷ longest_run g.scene item high p)) ≤ at (turns low high) size
   offered_few item low None p =
       let a = length-drop low (p ∷ longest_run g.scene item None p) in
       let b = run_short g item (length g.subject) None p in
@@ -195,17 +222,20 @@ module _ (g : Setting) (off : g.matching.«partial» ≡ Off) where
       let ps = drop low (s.place ∷ longest_run g.scene item high s.place) in
       let few = offered_few item low high s.place in
       let e = length-reverse ps in
-      reached_within _ _ _ _ s _ (within_more _ _ _ _ _ _ _ (omega (arith, e, few)) (omega (arith, e, few)) (omega arith) (fits_offers (reverse ps) s le))
+      reached_within _ _ _ _ s _ (within_more _ _ _ _ _ _ _ (omega (arith, e, few)) (omega (arith, e, few))
+      (omega arith) (fits_offers (reverse ps) s le))
   many_few item low high true s le =
       let few = offered_few item low high s.place in
-      reached_within _ _ _ _ s _ (within_more _ _ _ _ _ _ _ few few (omega arith) (fits_reluctant item _ (drop low (s.place ∷ longest_run g.scene item high s.place)) s le))
+      reached_within _ _ _ _ s _ (within_more _ _ _ _ _ _ _ few few (omega arith)
+      (fits_reluctant item _ (drop low (s.place ∷ longest_run g.scene item high s.place)) s le))
 
   pub fits_many : (item : Item) (low : ℕ) (high : Option ℕ) (lazily : Bool)
       → FitsIn (offered (turns low high)) (run_many g item low high lazily)
   fits_many item low high lazily = (
     λ s le.
         let one = at_steady 1 size in
-        within_more _ _ (s.units + 1) _ _ _ _ (omega arith) (omega arith) (omega (arith, one)) (many_few item low high lazily s (omega (arith, one, le))),
+        within_more _ _ (s.units + 1) _ _ _ _ (omega arith) (omega arith) (omega (arith, one))
+        (many_few item low high lazily s (omega (arith, one, le))),
     onward_many g item low high lazily,
   )
 
@@ -213,7 +243,8 @@ module _ (g : Setting) (off : g.matching.«partial» ≡ Off) where
 
   followed_few : (a b : Bound) (f : Search) (fs : List Search) → FitsIn a f
       → FitsIn b (in_order fs) →
-      Fits (at (followed a b).steps size) (at (followed a b).states size) (at (followed a b).units size) (in_order (f ∷ fs))
+      Fits (at (followed a b).steps size) (at (followed a b).states size) (at (followed a b).units size)
+      (in_order (f ∷ fs))
   unfolding in_order
   followed_few a b f fs h k s le =
       let p = at_product a.states b.steps size in
@@ -223,8 +254,10 @@ module _ (g : Setting) (off : g.matching.«partial» ≡ Off) where
       let j = at b.units size in
       let u = at_plus a.units b.units size (omega arith) in
       within_more _ _ _ _ _ _ _ (omega (arith, p, q)) (omega (arith, r)) (omega (arith, u))
-      (within_and_then _ _ (s.units + i) (at b.steps size) (at b.states size) (s.units + (i + j)) (f s) (in_order fs) (h.0 s (omega (arith, le, u)))
-      (λ t few. within_more _ _ _ _ _ _ _ (omega arith) (omega arith) (omega (arith, few)) (k.0 t (omega (arith, few, le, u)))))
+      (within_and_then _ _ (s.units + i) (at b.steps size) (at b.states size) (s.units + (i + j)) (f s) (in_order fs)
+      (h.0 s (omega (arith, le, u)))
+      (λ t few. within_more _ _ _ _ _ _ _ (omega arith) (omega arith) (omega (arith, few))
+      (k.0 t (omega (arith, few, le, u)))))
 
   pub fits_followed : (a b : Bound) (f : Search) (fs : List Search) → FitsIn a f
       → FitsIn b (in_order fs) → FitsIn (followed a b) (in_order (f ∷ fs))
@@ -242,7 +275,8 @@ module _ (g : Setting) (off : g.matching.«partial» ≡ Off) where
 
   choices_few : (a b : Bound) (f : Search) (fs : List Search) → FitsIn a f
       → FitsIn b (choices g fs) →
-      Fits (at (or_later a b).steps size) (at (or_later a b).states size) (at (or_later a b).units size) (choices g (f ∷ fs))
+      Fits (at (or_later a b).steps size) (at (or_later a b).states size) (at (or_later a b).units size)
+      (choices g (f ∷ fs))
   unfolding choices
   choices_few a b f [] h k s le =
       let o = at_steady 1 size in
@@ -253,7 +287,8 @@ module _ (g : Setting) (off : g.matching.«partial» ≡ Off) where
       let j = at_plus (steady 1) (plus a.units b.units) size (omega arith) in
       let v = s.units + at a.units size in
       within_more _ _ v _ _ _ _ (omega (arith, o, p, q)) (omega (arith, r)) (omega (arith, i, j))
-      (within_step _ _ _ _ (within_catch (at a.steps size) (at a.states size) v is_next_branch (f s) (h.0 s (omega (arith, le, i, j)))))
+      (within_step _ _ _ _ (within_catch (at a.steps size) (at a.states size) v is_next_branch (f s)
+      (h.0 s (omega (arith, le, i, j)))))
   choices_few a b f (f' ∷ fs) h k s le =
       let o = at_steady 1 size in
       let p = at_plus a.steps b.steps size (omega arith) in
@@ -267,7 +302,9 @@ module _ (g : Setting) (off : g.matching.«partial» ≡ Off) where
       (within_step _ _ _ _
       (within_or_else (at a.steps size) (at a.states size) (at b.steps size) (at b.states size) v _ _
       (held_within _ _ v 1 s _ (omega (arith, le, o, i, j))
-      (within_catch _ _ v is_next_branch (f t) (within_more _ _ _ _ _ _ _ (omega arith) (omega arith) (omega arith) (h.0 t (omega (arith, le, o, i, j))))))
+      (within_catch _ _ v is_next_branch (f t)
+      (within_more _ _ _ _ _ _ _ (omega arith) (omega arith) (omega arith)
+      (h.0 t (omega (arith, le, o, i, j))))))
       (within_more _ _ _ _ _ _ _ (omega arith) (omega arith) (omega arith) (k.0 s (omega (arith, le, o, i, j))))))
 
   pub fits_or_else : (a b : Bound) (f : Search) (fs : List Search) → FitsIn a f
@@ -278,7 +315,8 @@ module _ (g : Setting) (off : g.matching.«partial» ≡ Off) where
 
   -- with two units more
   pub two_more : (a : Bound) → 2 + at a.units size ≤ at (plus (steady 2) a.units) size
-  two_more a = let two = at_steady 2 size in let more = at_plus (steady 2) a.units size (omega arith) in omega (arith, two, more)
+  two_more a = let two = at_steady 2 size in let more = at_plus (steady 2) a.units size (omega arith) in
+      omega (arith, two, more)
 
   group_few : (n : ℕ) (a : Bound) (f : Search) → FitsIn a f
       → Fits (at a.steps size) (at a.states size) (at (plus (steady 2) a.units) size) (run_group g (Some n) f)
@@ -289,8 +327,10 @@ module _ (g : Setting) (off : g.matching.«partial» ≡ Off) where
       let v = s.units + (2 + at a.units size) in
       held_within _ _ _ 1 s _ (omega (arith, le, two))
       (within_more _ _ v _ _ _ _ (omega arith) (omega arith) (omega (arith, two))
-      (within_each (at a.steps size) (at a.states size) (t.units + at a.units size) 0 1 v (f t) _ (h.0 t (omega (arith, le, two)))
-      (λ u few. within_more _ _ _ _ _ _ _ (omega arith) (omega arith) (omega (arith, few)) (fits_hold (captured n s.place u) (omega (arith, few, le, two))))))
+      (within_each (at a.steps size) (at a.states size) (t.units + at a.units size) 0 1 v (f t) _
+      (h.0 t (omega (arith, le, two)))
+      (λ u few. within_more _ _ _ _ _ _ _ (omega arith) (omega arith) (omega (arith, few))
+      (fits_hold (captured n s.place u) (omega (arith, few, le, two))))))
 
   pub fits_group : (number : Option ℕ) (a : Bound) (f : Search) → FitsIn a f
       → FitsIn (grouped number a) (run_group g number f)
@@ -308,8 +348,10 @@ module _ (g : Setting) (off : g.matching.«partial» ≡ Off) where
       let v = s.units + (2 + at a.units size) in
       held_within _ _ _ 1 s _ (omega (arith, le, two))
       (within_more _ _ v _ _ _ _ (omega arith) (omega (arith, one)) (omega (arith, two))
-      (within_decide (at a.steps size) (at a.states size) (t.units + at a.units size) 0 1 0 0 v no_ending (f t) _ nothing (h.0 t (omega (arith, le, two)))
-      (λ u few. within_more _ _ _ _ _ _ _ (omega arith) (omega arith) (omega (arith, few)) (fits_hold (forget_passed s u) (omega (arith, few, le, two))))
+      (within_decide (at a.steps size) (at a.states size) (t.units + at a.units size) 0 1 0 0 v no_ending (f t) _
+      nothing (h.0 t (omega (arith, le, two)))
+      (λ u few. within_more _ _ _ _ _ _ _ (omega arith) (omega arith) (omega (arith, few))
+      (fits_hold (forget_passed s u) (omega (arith, few, le, two))))
       (within_nothing 0 0 _)))
 
   pub fits_atomic : (a : Bound) (f : Search) → FitsIn a f → FitsIn (closed a) (run_atomic g f)
@@ -325,8 +367,10 @@ module _ (g : Setting) (off : g.matching.«partial» ≡ Off) where
       let v = s.units + (2 + at a.units size) in
       held_within _ _ _ 1 s _ (omega (arith, le, two))
       (within_more _ _ v _ _ _ _ (omega arith) (omega (arith, one)) (omega (arith, two))
-      (within_decide (at a.steps size) (at a.states size) (t.units + at a.units size) 0 1 0 0 v fails_alone (f t) _ nothing (h.0 t (omega (arith, le, two)))
-      (λ u few. within_more _ _ _ _ _ _ _ (omega arith) (omega arith) (omega (arith, few)) (fits_hold (back_to s (forget_passed s u)) (omega (arith, few, le, two))))
+      (within_decide (at a.steps size) (at a.states size) (t.units + at a.units size) 0 1 0 0 v fails_alone (f t) _
+      nothing (h.0 t (omega (arith, le, two)))
+      (λ u few. within_more _ _ _ _ _ _ _ (omega arith) (omega arith) (omega (arith, few))
+      (fits_hold (back_to s (forget_passed s u)) (omega (arith, few, le, two))))
       (within_nothing 0 0 _)))
   look_few false a f h s le =
       let t : State = record s { units = s.units + 1 } in
@@ -335,7 +379,8 @@ module _ (g : Setting) (off : g.matching.«partial» ≡ Off) where
       let v = s.units + (2 + at a.units size) in
       held_within _ _ _ 1 s _ (omega (arith, le, two))
       (within_more _ _ v _ _ _ _ (omega arith) (omega (arith, one)) (omega (arith, two))
-      (within_decide (at a.steps size) (at a.states size) (t.units + at a.units size) 0 0 0 1 v fails_inside (f t) _ (gives reached s) (h.0 t (omega (arith, le, two)))
+      (within_decide (at a.steps size) (at a.states size) (t.units + at a.units size) 0 0 0 1 v fails_inside (f t) _
+      (gives reached s) (h.0 t (omega (arith, le, two)))
       (λ u few. within_nothing 0 0 _)
       (within_gives 0 _ s (omega arith))))
 

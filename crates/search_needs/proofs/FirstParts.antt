@@ -5,7 +5,8 @@ use Rattle.pat_tree.specs.Nested.{Nested, row}
 use Rattle.pat_bounds.specs.declared.bounds.Bound.{Bound}
 use Rattle.pat_bounds.specs.Bounds.{grouped, change, bound, bound_in_turn}
 use Rattle.pat_needs.specs.Lacking.{sequence}
-use Rattle.ordered_search.specs.Stream.{State, exhausted, by_verb, by_halt, How, reached, accepted, note, state, step, Stream, Search, ends, ◌▸◌, nothing, ◌or_else◌, each, go_on, and_then}
+use Rattle.ordered_search.specs.Stream.{State, exhausted, by_verb, by_halt, How, reached, accepted, note, state}
+use Rattle.ordered_search.specs.Stream.{step, Stream, Search, ends, ◌▸◌, nothing, ◌or_else◌, each, go_on, and_then}
 use Rattle.ordered_search.specs.Setting.{Setting}
 use Rattle.ordered_search.specs.Parts.{Searches, in_order, branches, run_group}
 use Rattle.ordered_search.specs.Run.{level, levels}

@@ -1,14 +1,17 @@
 -- Streams whose states are all at one place.
-use Rattle.std.proofs.Common.{◌≡◌, ℕ, zero, suc, ◌+◌, Bool, true, false, List, [], ◌∷◌, ◌++◌, drop, reverse, Option, Some, None, refl, sym, subst}
+use Rattle.std.proofs.Common.{◌≡◌, ℕ, zero, suc, ◌+◌, Bool, true, false, List, [], ◌∷◌, ◌++◌, drop, reverse, Option}
+use Rattle.std.proofs.Common.{Some, None, refl, sym, subst}
 use Rattle.std.specs.Prelude.{nat_le}
 use Rattle.std.proofs.lemmas.List.{reverse-append}
 use Rattle.pat_tree.specs.declared.options.PartialMode.TheVariants.{Off}
 use Rattle.pat_tree.specs.declared.nodes.Item.{Item}
 use Rattle.pat_tree.specs.declared.nodes.AnchorKind.{AnchorKind}
 use Rattle.match_items.specs.Items.{one_less, is_none_left, item_reaches, longest_run, holds, anchor_reaches}
-use Rattle.ordered_search.specs.Stream.{State, exhausted, by_verb, by_halt, too_many_units, How, reached, note, state, step, Stream, Search, ends, ◌▸◌, nothing, gives, ◌or_else◌}
+use Rattle.ordered_search.specs.Stream.{State, exhausted, by_verb, by_halt, too_many_units, How, reached, note}
+use Rattle.ordered_search.specs.Stream.{state, step, Stream, Search, ends, ◌▸◌, nothing, gives, ◌or_else◌}
 use Rattle.ordered_search.specs.Setting.{Setting, held, hold, reach_if}
-use Rattle.ordered_search.specs.Tests.{move_to, goes_to, run_anchor, offers, greedy, offer_and, reluctant, lazy_run, run_many}
+use Rattle.ordered_search.specs.Tests.{move_to, goes_to, run_anchor, offers, greedy, offer_and, reluctant, lazy_run}
+use Rattle.ordered_search.specs.Tests.{run_many}
 use Rattle.search_needs.proofs.Bounded.{unreached}
 
 unfoldable pub Lands : ℕ → Stream → Type 0

@@ -1,5 +1,6 @@
 -- Streams that go on: each state stands where the search began, or nearer to the subject's end.
-use Rattle.std.proofs.Common.{◌≡◌, ◌∙◌, ℕ, zero, suc, ◌+◌, ◌-◌, ◌<◌, ◌≤◌, Bool, true, false, List, [], ◌∷◌, length, drop, take, reverse, Option, Some, None, ◌⊎◌, inl, inr, refl, sym, ap, subst, arith}
+use Rattle.std.proofs.Common.{◌≡◌, ◌∙◌, ℕ, zero, suc, ◌+◌, ◌-◌, ◌<◌, ◌≤◌, Bool, true, false, List, [], ◌∷◌, length}
+use Rattle.std.proofs.Common.{drop, take, reverse, Option, Some, None, ◌⊎◌, inl, inr, refl, sym, ap, subst, arith}
 use Rattle.std.specs.Prelude.{All, nat_le, nat_lt, sum_by, chars}
 use Rattle.std.specs.Char.{len_utf8}
 use Rattle.std.proofs.lemmas.Bool.{cases_lt, leb-false}
@@ -12,12 +13,18 @@ use Rattle.pat_tree.specs.declared.options.PartialMode.TheVariants.{Off, Soft, H
 use Rattle.pat_tree.specs.declared.nodes.Item.{Item}
 use Rattle.pat_tree.specs.declared.nodes.AnchorKind.{AnchorKind}
 use Rattle.pat_tree.specs.Newlines.{break_kind}
-use Rattle.match_items.specs.Items.{one_less, is_none_left, is_end, takes, after_item, item_reaches, run_places, longest_run, characters, width, break_len, after_ref, ref_reaches, holds, anchor_reaches}
+use Rattle.match_items.specs.Items.{one_less, is_none_left, is_end, takes, after_item, item_reaches, run_places}
+use Rattle.match_items.specs.Items.{longest_run, characters, width, break_len, after_ref, ref_reaches, holds}
+use Rattle.match_items.specs.Items.{anchor_reaches}
 use Rattle.match_items.proofs.Newlines.{newline_past}
 use Rattle.frame_store.specs.Captures.{capture}
-use Rattle.ordered_search.specs.Stream.{State, Ending, exhausted, by_verb, by_halt, is_partial, How, reached, accepted, note, hit_end, state, step, Stream, Search, ends, ◌▸◌, nothing, gives, ◌or_else◌, each, go_on, and_then, decide, catch, no_ending, is_next_branch, fails_alone, fails_inside, captured}
+use Rattle.ordered_search.specs.Stream.{State, Ending, exhausted, by_verb, by_halt, is_partial, How, reached}
+use Rattle.ordered_search.specs.Stream.{accepted, note, hit_end, state, step, Stream, Search, ends, ◌▸◌, nothing}
+use Rattle.ordered_search.specs.Stream.{gives, ◌or_else◌, each, go_on, and_then, decide, catch, no_ending}
+use Rattle.ordered_search.specs.Stream.{is_next_branch, fails_alone, fails_inside, captured}
 use Rattle.ordered_search.specs.Setting.{Setting, counts, held, hold, reach, reach_if}
-use Rattle.ordered_search.specs.Tests.{move_to, goes_to, run_one, run_break, run_ref, run_anchor, offers, greedy, offer_and, reluctant, lazy_run, run_many}
+use Rattle.ordered_search.specs.Tests.{move_to, goes_to, run_one, run_break, run_ref, run_anchor, offers, greedy}
+use Rattle.ordered_search.specs.Tests.{offer_and, reluctant, lazy_run, run_many}
 use Rattle.ordered_search.specs.Parts.{in_order, choices, run_group, run_atomic, run_look, back_to, forget_passed}
 
 some_same : (a b : ℕ) → ◌≡◌ {A = Option ℕ} (Some a) (Some b) → a ≡ b
@@ -154,7 +161,12 @@ module _ (g : Setting) where
       by_taken inside false r later e = absurd cc
 
       by_end : (b : Bool) → is_end g.scene p ≡ b →
-          ◌≡◌ {A = Option ℕ} (elim (elim b as (λ _. Option (ℕ × ℕ)) [ true ↦ None | false ↦ Some (char_at g.options.utf g.subject p) ]) [
+          ◌≡◌ {A = Option ℕ}
+          (elim (elim b as (λ _. Option (ℕ × ℕ)) [
+            | true ↦ None
+            | false ↦
+                Some (char_at g.options.utf g.subject p)
+          ]) [
             | None ↦ None
             | Some c ↦ elim (takes g.scene item p c.0) [ true ↦ Some c.1 | false ↦ None ]
           ]) (Some q) → Near p q
@@ -185,7 +197,8 @@ module _ (g : Setting) where
   -- no characters stand past the end
   width_past : (n p : ℕ) → length g.subject ≤ p
       → width g.scene (take n (characters g.scene (drop p g.subject))) ≡ 0
-  width_past n p past = ap (λ (bytes : List ℕ). width g.scene (take n (characters g.scene bytes))) (drop_all p g.subject past) ∙ by_utf g.options.utf
+  width_past n p past = ap (λ (bytes : List ℕ). width g.scene (take n (characters g.scene bytes)))
+      (drop_all p g.subject past) ∙ by_utf g.options.utf
     where
       by_utf : (utf : Bool) → elim utf as (λ _. ℕ) [
         | true ↦ sum_by len_utf8 (take n (elim utf as (λ _. List ℕ) [ true ↦ chars [] | false ↦ [] ]))
@@ -207,25 +220,30 @@ module _ (g : Setting) where
   unfolding run_break
   onward_break s =
       onward_reach_if s.place _ s _
-      (onward_goes s _ (λ q e. told_near (nat_lt 0 (break_len g.scene s.place)) s.place (break_len g.scene s.place) q (break_past s.place) e))
+      (onward_goes s _ (λ q e. told_near (nat_lt 0 (break_len g.scene s.place)) s.place (break_len g.scene s.place) q
+      (break_past s.place) e))
 
   pub onward_ref : (ns : List ℕ) (caseless : Bool) → GoesOn (run_ref g ns caseless)
   unfolding run_ref
-  onward_ref [] caseless s = onward_if s.place g.options.match_unset_backref _ _ (onward_gives s.place reached s (inl refl)) (onward_ends s.place exhausted)
+  onward_ref [] caseless s = onward_if s.place g.options.match_unset_backref _ _
+      (onward_gives s.place reached s (inl refl)) (onward_ends s.place exhausted)
   onward_ref (m ∷ ns) caseless s = elim (capture s.caps m)
       as (λ o. Onward s.place (elim o [
         | None ↦ run_ref g ns caseless s
-        | Some span ↦ reach_if g (ref_reaches g.scene span.from span.to caseless s.place) s (goes_to (after_ref g.scene span.from span.to caseless s.place) s)
+        | Some span ↦ reach_if g (ref_reaches g.scene span.from span.to caseless s.place) s
+            (goes_to (after_ref g.scene span.from span.to caseless s.place) s)
       ])) [
         | None ↦ onward_ref ns caseless s
-        | Some span ↦ onward_reach_if s.place _ s _ (onward_goes s _ (λ q e. told_near _ s.place _ q (width_past _ s.place) e))
+        | Some span ↦ onward_reach_if s.place _ s _
+            (onward_goes s _ (λ q e. told_near _ s.place _ q (width_past _ s.place) e))
       ]
 
   pub onward_anchor : (kind : AnchorKind) → GoesOn (run_anchor g kind)
   unfolding run_anchor
   onward_anchor kind s =
       onward_reach_if s.place (anchor_reaches g.scene kind s.place) _ _
-      (onward_if s.place (holds g.scene kind s.place) _ _ (onward_gives s.place reached _ (inl refl)) (onward_ends s.place exhausted))
+      (onward_if s.place (holds g.scene kind s.place) _ _ (onward_gives s.place reached _ (inl refl))
+      (onward_ends s.place exhausted))
 
   -- Repeats of an item.
 
@@ -238,11 +256,13 @@ module _ (g : Setting) where
   all_reverse p [] h = h
   all_reverse p (q ∷ qs) h =
       subst (All (Near p)) (sym (reverse-append (q ∷ []) qs))
-      (All-append (Near p) (reverse qs) (q ∷ []) (all_reverse p qs (All-tail (Near p) q qs h)) (All-cons (Near p) q [] (All-head (Near p) q qs h) (All-nil (Near p))))
+      (All-append (Near p) (reverse qs) (q ∷ []) (all_reverse p qs (All-tail (Near p) q qs h))
+      (All-cons (Near p) q [] (All-head (Near p) q qs h) (All-nil (Near p))))
 
   all_nearer : (p q : ℕ) (qs : List ℕ) → Near p q → All (Near q) qs → All (Near p) qs
   all_nearer p q [] h k = All-nil (Near p)
-  all_nearer p q (r ∷ rs) h k = All-cons (Near p) r rs (near_on p q r h (All-head (Near q) r rs k)) (all_nearer p q rs h (All-tail (Near q) r rs k))
+  all_nearer p q (r ∷ rs) h k = All-cons (Near p) r rs (near_on p q r h (All-head (Near q) r rs k))
+      (all_nearer p q rs h (All-tail (Near q) r rs k))
 
   places_near : (item : Item) (n : ℕ) (most : Option ℕ) (p : ℕ)
       → All (Near p) (run_places g.scene item n most p)
@@ -254,13 +274,22 @@ module _ (g : Setting) where
       Rest = (q : ℕ) → All (Near q) (run_places g.scene item n (one_less most) q)
 
       by_item : (o : Option ℕ) → after_item g.scene item p ≡ o → Rest
-          → All (Near p) (elim o as (λ _. List ℕ) [ None ↦ [] | Some q ↦ q ∷ run_places g.scene item n (one_less most) q ])
+          → All (Near p) (elim o as (λ _. List ℕ) [
+            | None ↦ []
+            | Some q ↦
+                q ∷ run_places g.scene item n (one_less most) q
+          ])
       by_item None e rest = All-nil (Near p)
-      by_item (Some q) e rest = let near = item_near item p q e in All-cons (Near p) q _ near (all_nearer p q _ near (rest q))
+      by_item (Some q) e rest = let near = item_near item p q e in
+          All-cons (Near p) q _ near (all_nearer p q _ near (rest q))
 
       by_left : (b : Bool) → Rest → All (Near p) (elim b as (λ _. List ℕ) [
         | true ↦ []
-        | false ↦ elim (after_item g.scene item p) [ None ↦ [] | Some q ↦ q ∷ run_places g.scene item n (one_less most) q ]
+        | false ↦ elim (after_item g.scene item p) [
+          | None ↦ []
+          | Some q ↦
+              q ∷ run_places g.scene item n (one_less most) q
+        ]
       ])
       by_left true rest = All-nil (Near p)
       by_left false rest = by_item (after_item g.scene item p) refl rest
@@ -268,7 +297,8 @@ module _ (g : Setting) where
   onward_offers : (ps : List ℕ) (s : State) → All (Near s.place) ps → Onward s.place (offers g ps s)
   unfolding offers
   onward_offers [] s h = onward_ends s.place exhausted
-  onward_offers (p ∷ []) s h = onward_step s.place _ (onward_gives s.place reached (move_to p s) (All-head (Near s.place) p [] h))
+  onward_offers (p ∷ []) s h = onward_step s.place _
+      (onward_gives s.place reached (move_to p s) (All-head (Near s.place) p [] h))
   onward_offers (p ∷ q ∷ ps) s h =
       onward_step s.place _
       (onward_or_else s.place _ _ (onward_hold s.place reached (move_to p s) (All-head (Near s.place) p (q ∷ ps) h))
@@ -285,7 +315,8 @@ module _ (g : Setting) where
   onward_reluctant item left [] s h = onward_ends s.place exhausted
   onward_reluctant item left (p ∷ ps) s h =
       onward_offer s.place (is_none_left left) (move_to p s) _ (All-head (Near s.place) p ps h)
-      (onward_reach_if s.place (item_reaches g.scene item p) s _ (onward_reluctant item (one_less left) ps s (All-tail (Near s.place) p ps h)))
+      (onward_reach_if s.place (item_reaches g.scene item p) s _
+      (onward_reluctant item (one_less left) ps s (All-tail (Near s.place) p ps h)))
 
   pub onward_many : (item : Item) (low : ℕ) (high : Option ℕ) (lazily : Bool)
       → GoesOn (run_many g item low high lazily)
@@ -293,7 +324,8 @@ module _ (g : Setting) where
   onward_many item low high lazily s = by_kind lazily
     where
       near : All (Near s.place) (drop low (s.place ∷ longest_run g.scene item high s.place))
-      near = all_drop s.place low _ (All-cons (Near s.place) s.place _ (inl refl) (places_near item (length g.subject) high s.place))
+      near = all_drop s.place low _ (All-cons (Near s.place) s.place _ (inl refl)
+          (places_near item (length g.subject) high s.place))
 
       by_kind : (l : Bool) → Onward s.place (run_many g item low high l s)
       by_kind false = onward_reach_if s.place _ s _ (onward_offers _ s (all_reverse s.place _ near))
@@ -315,29 +347,35 @@ module _ (g : Setting) where
   unfolding choices
   onward_choices f [] h k s = onward_step s.place _ (onward_catch s.place is_next_branch (f s) (h s))
   onward_choices f (f' ∷ fs) h k s =
-      onward_step s.place _ (onward_or_else s.place _ _ (onward_held s.place 1 s _ (onward_catch s.place is_next_branch _ (h (record s { units = s.units + 1 })))) (k s))
+      onward_step s.place _ (onward_or_else s.place _ _
+      (onward_held s.place 1 s _ (onward_catch s.place is_next_branch _ (h (record s { units = s.units + 1 }))))
+      (k s))
 
   pub onward_group : (number : Option ℕ) (f : Search) → GoesOn f → GoesOn (run_group g number f)
   unfolding run_group
   onward_group None f h s = h s
   onward_group (Some n) f h s =
       onward_held s.place 1 s _
-      (onward_each s.place _ _ (h (record s { units = s.units + 1 })) (λ how u near. onward_hold s.place how (captured n s.place u) near))
+      (onward_each s.place _ _ (h (record s { units = s.units + 1 }))
+      (λ how u near. onward_hold s.place how (captured n s.place u) near))
 
   pub onward_atomic : (f : Search) → GoesOn f → GoesOn (run_atomic g f)
   unfolding run_atomic
   onward_atomic f h s =
       onward_held s.place 1 s _
-      (onward_decide s.place no_ending _ (λ how u. hold g how (forget_passed s u)) nothing (h (record s { units = s.units + 1 })) (onward_ends s.place exhausted)
+      (onward_decide s.place no_ending _ (λ how u. hold g how (forget_passed s u)) nothing
+      (h (record s { units = s.units + 1 })) (onward_ends s.place exhausted)
       (λ how u near. onward_hold s.place how (forget_passed s u) near))
 
   pub onward_look : (positive : Bool) (f : Search) → GoesOn f → GoesOn (run_look g positive true f)
   unfolding run_look
   onward_look true f h s =
       onward_held s.place 1 s _
-      (onward_decide s.place fails_alone _ (λ how u. hold g reached (back_to s (forget_passed s u))) nothing (h (record s { units = s.units + 1 })) (onward_ends s.place exhausted)
+      (onward_decide s.place fails_alone _ (λ how u. hold g reached (back_to s (forget_passed s u))) nothing
+      (h (record s { units = s.units + 1 })) (onward_ends s.place exhausted)
       (λ how u near. onward_hold s.place reached (back_to s (forget_passed s u)) (inl refl)))
   onward_look false f h s =
       onward_held s.place 1 s _
-      (onward_decide s.place fails_inside _ (λ how u. nothing) (gives reached s) (h (record s { units = s.units + 1 })) (onward_gives s.place reached s (inl refl))
+      (onward_decide s.place fails_inside _ (λ how u. nothing) (gives reached s)
+      (h (record s { units = s.units + 1 })) (onward_gives s.place reached s (inl refl))
       (λ how u near. onward_ends s.place exhausted))

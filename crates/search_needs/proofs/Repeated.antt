@@ -1,8 +1,10 @@
 -- Repeats of a group that is left once at most: how many turns there are, by the places at which
 -- they begin.
-use Rattle.std.proofs.Common.{◌≡◌, ◌∙◌, ℕ, zero, suc, ◌+◌, ◌-◌, ◌*◌, ◌<◌, ◌≤◌, Bool, true, false, length, max, Option, Some, None, inl, inr, refl, sym, ap, subst, arith}
+use Rattle.std.proofs.Common.{◌≡◌, ◌∙◌, ℕ, zero, suc, ◌+◌, ◌-◌, ◌*◌, ◌<◌, ◌≤◌, Bool, true, false, length, max}
+use Rattle.std.proofs.Common.{Option, Some, None, inl, inr, refl, sym, ap, subst, arith}
 use Rattle.std.specs.Prelude.{◌==◌, ◌&&◌, ◌||◌, nat_le, nat_lt}
-use Rattle.std.proofs.lemmas.Bool.{leb-true, leb-false, lt-ltb, ltb-true, eq-eqb, eqb-true, eqb-false, or_left, or_right, and_parts}
+use Rattle.std.proofs.lemmas.Bool.{leb-true, leb-false, lt-ltb, ltb-true, eq-eqb, eqb-true, eqb-false, or_left}
+use Rattle.std.proofs.lemmas.Bool.{or_right, and_parts}
 use Rattle.std.proofs.lemmas.Nat.{mul-le}
 use Rattle.pat_tree.specs.declared.options.PartialMode.TheVariants.{Off}
 use Rattle.pat_tree.specs.Nested.{Nested, repeat}
@@ -10,13 +12,16 @@ use Rattle.match_items.specs.Items.{one_less}
 use Rattle.pat_bounds.specs.declared.bounds.Growth.{Growth}
 use Rattle.pat_bounds.specs.declared.bounds.Bound.{Bound}
 use Rattle.pat_bounds.specs.Bounds.{at, steady, plus, product, line, group_turns, group_ends, in_turns}
-use Rattle.ordered_search.specs.Stream.{State, cut, by_halt, How, reached, note, state, step, Stream, Search, ends, ◌▸◌, nothing, gives, ◌or_else◌, each, go_on, and_then}
+use Rattle.ordered_search.specs.Stream.{State, cut, by_halt, How, reached, note, state, step, Stream, Search, ends}
+use Rattle.ordered_search.specs.Stream.{◌▸◌, nothing, gives, ◌or_else◌, each, go_on, and_then}
 use Rattle.ordered_search.specs.Setting.{Setting, hold}
 use Rattle.ordered_search.specs.Parts.{Searches, is_over, turn, run_repeat}
 use Rattle.ordered_search.specs.Run.{level, run}
-use Rattle.search_needs.proofs.TameStreams.{Within, within_more, within_nothing, within_gives, within_end, within_step, within_or_else, within_each}
+use Rattle.search_needs.proofs.TameStreams.{Within, within_more, within_nothing, within_gives, within_end}
+use Rattle.search_needs.proofs.TameStreams.{within_step, within_or_else, within_each}
 use Rattle.search_needs.proofs.Growing.{at_steady, at_line, at_plus, at_product}
-use Rattle.search_needs.proofs.Onward.{Near, Onward, GoesOn, onward_ends, onward_gives, onward_step, onward_if, onward_or_else, onward_and_then, onward_held, onward_hold}
+use Rattle.search_needs.proofs.Onward.{Near, Onward, GoesOn, onward_ends, onward_gives, onward_step, onward_if}
+use Rattle.search_needs.proofs.Onward.{onward_or_else, onward_and_then, onward_held, onward_hold}
 use Rattle.search_needs.proofs.Bounded.{size, held_within, fits_hold, Fits, FitsIn}
 
 -- What goes on from states that are near needs to be within bounds there alone.
@@ -45,13 +50,15 @@ module _ (g : Setting) (p : ℕ) where
   each_near (note m ▸ x) f h = ap (λ y. note m ▸ y) (each_near x f h)
   each_near (state how s ▸ x) f h =
       ap (λ y. f how s or_else y) (each_near x f h.1)
-      ∙ ap (λ (b : Bool). elim b as (λ _. Stream) [ true ↦ f how s | false ↦ nothing ] or_else each x (where_near f)) (sym (near_told s.place h.0))
+      ∙ ap (λ (b : Bool). elim b as (λ _. Stream) [ true ↦ f how s | false ↦ nothing ] or_else each x (where_near f))
+      (sym (near_told s.place h.0))
   each_near (step ▸ x) f h = ap (λ y. step ▸ y) (each_near x f h)
 
   within_near : (n r u q t v : ℕ) (x : Stream) (f : Search) → Within n r u x → Onward g p x
       → ((s : State) → s.units ≤ u → Near g p s.place → Within q t v (f s))
       → Within (n + r * q) (r * t) v (and_then x f)
-  within_near n r u q t v x f h near k = subst (Within (n + r * q) (r * t) v) (sym (each_near x (go_on f) near)) (within_each n r u q t v x (where_near (go_on f)) h by_place)
+  within_near n r u q t v x f h near k = subst (Within (n + r * q) (r * t) v) (sym (each_near x (go_on f) near))
+      (within_each n r u q t v x (where_near (go_on f)) h by_place)
     where
       by_place : (s : State) → s.units ≤ u → Within q t v (where_near (go_on f) reached s)
       by_place s few = by_test (is_near s.place) refl
@@ -99,7 +106,8 @@ module _ (g : Setting) (off : g.matching.«partial» ≡ Off) (body : Nested) (p
 
   -- with so much depth
   abbrev RepeatFits : ℕ → Type 0
-  RepeatFits d = (n low : ℕ) (high : Option ℕ) (lazily : Bool) (s : State) → Enough n low high s.place → s.units + n * v ≤ g.matching.frame_limit
+  RepeatFits d = (n low : ℕ) (high : Option ℕ) (lazily : Bool) (s : State) → Enough n low high s.place
+      → s.units + n * v ≤ g.matching.frame_limit
       → Fit n (n + 1 - low) s (run g d (repeat body low high lazily) s)
 
   -- a turn, and what goes on from it
@@ -137,14 +145,16 @@ module _ (g : Setting) (off : g.matching.«partial» ≡ Off) (body : Nested) (p
           by_test false e =
               let more = one_more n v in
               within_more _ _ (t.units + n * v) _ _ _ _ (omega arith) (omega arith) (omega (arith, few, more, units))
-              (rest n (low - 1) (one_less high) lazily t (enough_less n low high s t enough near e) (omega (arith, few, more, units, room)))
+              (rest n (low - 1) (one_less high) lazily t (enough_less n low high s t enough near e)
+              (omega (arith, few, more, units, room)))
 
   -- it is left before a first turn too
   or_left_here : (n : ℕ) (s : State) (x : Stream) → Fit (suc n) (n + 1 - (0 - 1)) s x
       → Fit (suc n) (suc n + 1 - 0) s (x or_else gives reached s)
   or_left_here n s x h =
       within_more _ _ (s.units + suc n * v) _ _ _ _ (omega arith) (omega arith) (omega arith)
-      (within_or_else (suc n * p) (n + 1 - (0 - 1)) 0 1 (s.units + suc n * v) x (gives reached s) h (within_gives 0 _ s (omega arith)))
+      (within_or_else (suc n * p) (n + 1 - (0 - 1)) 0 1 (s.units + suc n * v) x (gives reached s) h
+      (within_gives 0 _ s (omega arith)))
 
   left_here_or : (n : ℕ) (s : State) (x : Stream) → s.units + suc n * v ≤ g.matching.frame_limit
       → Fit (suc n) (n + 1 - (0 - 1)) s x
@@ -153,7 +163,8 @@ module _ (g : Setting) (off : g.matching.«partial» ≡ Off) (body : Nested) (p
       let more = one_more n v in
       within_more _ _ (s.units + suc n * v) _ _ _ _ (omega arith) (omega arith) (omega arith)
       (within_or_else 0 1 (suc n * p) (n + 1 - (0 - 1)) (s.units + suc n * v) (hold g reached s) x
-      (within_more 0 1 (s.units + 1) _ _ _ _ (omega arith) (omega arith) (omega (arith, more, units)) (fits_hold g off s (omega (arith, room, more, units)))) h)
+      (within_more 0 1 (s.units + 1) _ _ _ _ (omega arith) (omega arith) (omega (arith, more, units))
+      (fits_hold g off s (omega (arith, room, more, units)))) h)
 
   repeat_fits : (d : ℕ) → RepeatFits d
   unfolding run level run_repeat
@@ -165,11 +176,16 @@ module _ (g : Setting) (off : g.matching.«partial» ≡ Off) (body : Nested) (p
   repeat_fits (suc d) zero zero None lazily s h room = absurd (omega (arith, h))
   repeat_fits (suc d) zero zero (Some (suc high)) lazily s h room = absurd (let a = h.1 in omega (arith, a))
   repeat_fits (suc d) (suc n) (suc low) high lazily s h room =
-      within_more _ _ _ _ _ _ _ (omega arith) (omega arith) (omega arith) (turned d n (suc low) high lazily s h room (repeat_fits d))
-  repeat_fits (suc d) (suc n) zero None true s h room = left_here_or n s _ room (turned d n zero None true s h room (repeat_fits d))
-  repeat_fits (suc d) (suc n) zero None false s h room = or_left_here n s _ (turned d n zero None false s h room (repeat_fits d))
-  repeat_fits (suc d) (suc n) zero (Some (suc high)) true s h room = left_here_or n s _ room (turned d n zero (Some (suc high)) true s h room (repeat_fits d))
-  repeat_fits (suc d) (suc n) zero (Some (suc high)) false s h room = or_left_here n s _ (turned d n zero (Some (suc high)) false s h room (repeat_fits d))
+      within_more _ _ _ _ _ _ _ (omega arith) (omega arith) (omega arith)
+      (turned d n (suc low) high lazily s h room (repeat_fits d))
+  repeat_fits (suc d) (suc n) zero None true s h room =
+      left_here_or n s _ room (turned d n zero None true s h room (repeat_fits d))
+  repeat_fits (suc d) (suc n) zero None false s h room =
+      or_left_here n s _ (turned d n zero None false s h room (repeat_fits d))
+  repeat_fits (suc d) (suc n) zero (Some (suc high)) true s h room =
+      left_here_or n s _ room (turned d n zero (Some (suc high)) true s h room (repeat_fits d))
+  repeat_fits (suc d) (suc n) zero (Some (suc high)) false s h room =
+      or_left_here n s _ (turned d n zero (Some (suc high)) false s h room (repeat_fits d))
 
   -- Its states go on.
 
@@ -186,17 +202,21 @@ module _ (g : Setting) (off : g.matching.«partial» ≡ Off) (body : Nested) (p
       → GoesOn g (run g d (repeat body low high lazily))
   unfolding run level run_repeat
   repeat_goes zero low high lazily s = onward_ends g s.place (by_halt cut)
-  repeat_goes (suc d) (suc low) high lazily s = turn_goes (run g d) (suc low) high lazily (goes d) (repeat_goes d (suc low - 1) (one_less high) lazily) s
+  repeat_goes (suc d) (suc low) high lazily s = turn_goes (run g d) (suc low) high lazily (goes d)
+      (repeat_goes d (suc low - 1) (one_less high) lazily) s
   repeat_goes (suc d) zero (Some zero) lazily s = onward_gives g s.place reached s (inl refl)
   repeat_goes (suc d) zero None true s =
-      onward_or_else g s.place _ _ (onward_hold g s.place reached s (inl refl)) (turn_goes (run g d) zero None true (goes d) (repeat_goes d (zero - 1) None true) s)
+      onward_or_else g s.place _ _ (onward_hold g s.place reached s (inl refl))
+      (turn_goes (run g d) zero None true (goes d) (repeat_goes d (zero - 1) None true) s)
   repeat_goes (suc d) zero None false s =
-      onward_or_else g s.place _ _ (turn_goes (run g d) zero None false (goes d) (repeat_goes d (zero - 1) None false) s) (onward_gives g s.place reached s (inl refl))
+      onward_or_else g s.place _ _ (turn_goes (run g d) zero None false (goes d) (repeat_goes d (zero - 1) None false)
+      s) (onward_gives g s.place reached s (inl refl))
   repeat_goes (suc d) zero (Some (suc high)) true s =
       onward_or_else g s.place _ _ (onward_hold g s.place reached s (inl refl))
       (turn_goes (run g d) zero (Some (suc high)) true (goes d) (repeat_goes d (zero - 1) (Some (suc high - 1)) true) s)
   repeat_goes (suc d) zero (Some (suc high)) false s =
-      onward_or_else g s.place _ _ (turn_goes (run g d) zero (Some (suc high)) false (goes d) (repeat_goes d (zero - 1) (Some (suc high - 1)) false) s)
+      onward_or_else g s.place _ _ (turn_goes (run g d) zero (Some (suc high)) false (goes d)
+      (repeat_goes d (zero - 1) (Some (suc high - 1)) false) s)
       (onward_gives g s.place reached s (inl refl))
 
 module _ (g : Setting) (off : g.matching.«partial» ≡ Off) where
@@ -224,7 +244,8 @@ module _ (g : Setting) (off : g.matching.«partial» ≡ Off) where
 
   -- each turn takes a Step or holds a unit beside what the body does
   told : (low : ℕ) (high : Option ℕ) (b : Growth) →
-      many low high * at (plus (steady 1) b) (size g off) ≤ at (product (group_turns low high) (plus (steady 1) b)) (size g off)
+      many low high * at (plus (steady 1) b) (size g off) ≤ at (product (group_turns low high) (plus (steady 1) b))
+      (size g off)
   told low high b =
       let n = size g off in
       let each = at (plus (steady 1) b) n in
@@ -242,7 +263,8 @@ module _ (g : Setting) (off : g.matching.«partial» ≡ Off) where
       → at a.states (size g off) ≤ 1
       → ((d : ℕ) → FitsIn g off a (run g d body))
       → FitsIn g off (in_turns low high a) (run g d (repeat body low high lazily))
-  fits_repeat d body low high lazily a once fits = (few, repeat_goes g off body p v i u steps units body_few (λ d. (fits d).1) d low high lazily)
+  fits_repeat d body low high lazily a once fits =
+      (few, repeat_goes g off body p v i u steps units body_few (λ d. (fits d).1) d low high lazily)
     where
       n : ℕ
       n = size g off
@@ -277,9 +299,11 @@ module _ (g : Setting) (off : g.matching.«partial» ≡ Off) where
           by_high None = omega arith
           by_high (Some h) = (omega arith, omega arith)
 
-      few : Fits g off (at (in_turns low high a).steps n) (at (in_turns low high a).states n) (at (in_turns low high a).units n) (run g d (repeat body low high lazily))
+      few : Fits g off (at (in_turns low high a).steps n) (at (in_turns low high a).states n)
+          (at (in_turns low high a).units n) (run g d (repeat body low high lazily))
       few s le =
           let b = told low high a.steps in
           let c = told low high a.units in
           within_more _ _ (s.units + many low high * v) _ _ _ _ b (ends_told low high) (omega (arith, c))
-          (repeat_fits g off body p v i u steps units body_few (λ d. (fits d).1) d (many low high) low high lazily s (enough s.place) (omega (arith, c, le)))
+          (repeat_fits g off body p v i u steps units body_few (λ d. (fits d).1) d (many low high) low high lazily s
+          (enough s.place) (omega (arith, c, le)))

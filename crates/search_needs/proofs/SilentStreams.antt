@@ -1,6 +1,7 @@
 -- Streams without a state.
 use Rattle.std.proofs.Common.{◌≡◌, Bool, true, false, refl, arith}
-use Rattle.ordered_search.specs.Stream.{Ending, How, note, state, step, Stream, Search, ends, ◌▸◌, nothing, ◌or_else◌, each, decide, catch}
+use Rattle.ordered_search.specs.Stream.{Ending, How, note, state, step, Stream, Search, ends, ◌▸◌, nothing}
+use Rattle.ordered_search.specs.Stream.{◌or_else◌, each, decide, catch}
 use Rattle.search_needs.proofs.TameStreams.{state_count, states_both}
 
 abbrev pub Silent : Stream → Type 0
@@ -33,7 +34,8 @@ silent_before (note m ▸ x) f h = silent_before x f h
 silent_before (state how s ▸ x) f h = absurd (omega (arith, h))
 silent_before (step ▸ x) f h = silent_before x f h
 
-pub silent_decide : (fails : Ending → Bool) (x : Stream) (f : How → Search) (y : Stream) → Silent x → Silent y → Silent (decide fails x f y)
+pub silent_decide : (fails : Ending → Bool) (x : Stream) (f : How → Search) (y : Stream) → Silent x → Silent y
+    → Silent (decide fails x f y)
 unfolding state_count decide
 silent_decide fails (ends e) f y h k = silent_if (fails e) y (ends e) k refl
 silent_decide fails (note m ▸ x) f y h k = silent_decide fails x f y h k

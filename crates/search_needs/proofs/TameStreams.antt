@@ -2,7 +2,9 @@
 -- with no more than so many units and nothing told beside them; how many Steps and states they give.
 use Rattle.std.proofs.Common.{◌≡◌, ℕ, suc, ◌+◌, ◌*◌, ◌≤◌, Bool, true, false, refl, ap, arith}
 use Rattle.std.proofs.lemmas.Nat.{mul-le}
-use Rattle.ordered_search.specs.Stream.{State, Ending, exhausted, by_verb, by_halt, is_partial, too_many_units, loop, abort, cut, How, reached, accepted, note, state, step, Stream, Search, ends, ◌▸◌, nothing, gives, ◌or_else◌, each, and_then, go_on, decide, catch}
+use Rattle.ordered_search.specs.Stream.{State, Ending, exhausted, by_verb, by_halt, is_partial, too_many_units, loop}
+use Rattle.ordered_search.specs.Stream.{abort, cut, How, reached, accepted, note, state, step, Stream, Search, ends}
+use Rattle.ordered_search.specs.Stream.{◌▸◌, nothing, gives, ◌or_else◌, each, and_then, go_on, decide, catch}
 use Rattle.ordered_search.specs.Laws.{step_count}
 
 -- how many states are in it
@@ -92,7 +94,8 @@ pub within_gives : (p u : ℕ) (s : State) → s.units ≤ u → Within p 1 u (g
 unfolding step_count state_count Tame
 within_gives p u s h = record { steps = omega arith; states = omega arith; tame = (h, tt) }
 
-pub within_if : (p r u : ℕ) (b : Bool) (x y : Stream) → Within p r u x → Within p r u y → Within p r u (elim b [ true ↦ x | false ↦ y ])
+pub within_if : (p r u : ℕ) (b : Bool) (x y : Stream) → Within p r u x → Within p r u y
+    → Within p r u (elim b [ true ↦ x | false ↦ y ])
 within_if p r u true x y h k = h
 within_if p r u false x y h k = k
 
@@ -100,7 +103,8 @@ pub within_step : (p r u : ℕ) (x : Stream) → Within p r u x → Within (1 + 
 unfolding step_count state_count Tame
 within_step p r u x h = record { steps = let k = h.steps in omega (arith, k); states = h.states; tame = h.tame }
 
-pub within_or_else : (p r q t u : ℕ) (x y : Stream) → Within p r u x → Within q t u y → Within (p + q) (r + t) u (x or_else y)
+pub within_or_else : (p r q t u : ℕ) (x y : Stream) → Within p r u x → Within q t u y
+    → Within (p + q) (r + t) u (x or_else y)
 within_or_else p r q t u x y h k = record {
   steps = let a = h.steps in let b = k.steps in let c = steps_both x y in omega (arith, a, b, c);
   states = let a = h.states in let b = k.states in let c = states_both x y in omega (arith, a, b, c);
@@ -164,7 +168,8 @@ within_each p r u q t v x f h k = record {
   tame = tame_each u q t v x f h.tame k;
 }
 
-pub within_and_then : (p r u q t v : ℕ) (x : Stream) (f : Search) → Within p r u x → ((s : State) → s.units ≤ u → Within q t v (f s)) →
+pub within_and_then : (p r u q t v : ℕ) (x : Stream) (f : Search) → Within p r u x
+    → ((s : State) → s.units ≤ u → Within q t v (f s)) →
     Within (p + r * q) (r * t) v (and_then x f)
 within_and_then p r u q t v x f h k = within_each p r u q t v x (go_on f) h k
 
@@ -173,7 +178,8 @@ decide_counted : (u q t q' t' v : ℕ) (fails : Ending → Bool) (x : Stream) (f
     AllWithin u q t v f → Within q' t' v y → Within (step_count x + (q + q')) (t + t') v (decide fails x f y)
 unfolding Tame step_count decide
 decide_counted u q t q' t' v fails (ends e) f y h k l =
-    within_if _ _ v (fails e) y (ends e) (within_more q' t' v _ _ v y (omega arith) (omega arith) (omega arith) l) (within_end _ _ v e h)
+    within_if _ _ v (fails e) y (ends e) (within_more q' t' v _ _ v y (omega arith) (omega arith) (omega arith) l)
+    (within_end _ _ v e h)
 decide_counted u q t q' t' v fails (note m ▸ x) f y h k l = absurd h
 decide_counted u q t q' t' v fails (state reached s ▸ x) f y h k l =
     within_more q t v _ _ v (f reached s) (omega arith) (omega arith) (omega arith) (k s h.0)
@@ -182,7 +188,8 @@ decide_counted u q t q' t' v fails (step ▸ x) f y h k l =
     within_more (1 + (step_count x + (q + q'))) (t + t') v _ _ v _ (omega arith) (omega arith) (omega arith)
     (within_step (step_count x + (q + q')) (t + t') v _ (decide_counted u q t q' t' v fails x f y h k l))
 
-pub within_decide : (p r u q t q' t' v : ℕ) (fails : Ending → Bool) (x : Stream) (f : How → Search) (y : Stream) → Within p r u x →
+pub within_decide : (p r u q t q' t' v : ℕ) (fails : Ending → Bool) (x : Stream) (f : How → Search) (y : Stream)
+    → Within p r u x →
     AllWithin u q t v f → Within q' t' v y → Within (p + (q + q')) (t + t') v (decide fails x f y)
 within_decide p r u q t q' t' v fails x f y h k l =
     let a = h.steps in

@@ -8,8 +8,8 @@ pub fn no_match_without_need()
     ensures { NeedLaw }
 {}
 
-/// Where no text stands so far behind a place as every match takes one behind its begin, and the bound of the pattern is
-/// within the limits, the place fails, no limit is passed, and nothing is told.
+/// Where no text stands so far behind a place as every match takes one behind its begin, and the bound of the pattern
+/// is within the limits, the place fails, no limit is passed, and nothing is told.
 pub fn no_match_without_begin()
     ensures { BeginLaw }
 {}

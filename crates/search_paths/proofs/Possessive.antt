@@ -16,6 +16,7 @@ unfolding many_of
 many_is (tree.one_repeat item low high lazily) m e = ap (many_of (tree.one_repeat item low high lazily)) (sym e)
 many_is _ m e = absurd (none_some m e)
 
-pub only_is : (ts : Row) (m : Many) → only_many ts ≡ Some m → tree.more (tree.one_repeat m.item m.low m.high m.lazily) tree.none ≡ ts
+pub only_is : (ts : Row) (m : Many) → only_many ts ≡ Some m
+    → tree.more (tree.one_repeat m.item m.low m.high m.lazily) tree.none ≡ ts
 only_is (tree.more t tree.none) m e = ap (λ x. tree.more x tree.none) (many_is t m e)
 only_is _ m e = absurd (none_some m e)

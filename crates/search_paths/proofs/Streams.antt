@@ -1,17 +1,26 @@
 -- What follows a stream, without the pauses; items, and the repeats of one item.
-use Rattle.std.proofs.Common.{◌≡◌, ℕ, ◌+◌, ◌-◌, ◌∙◌, Bool, true, false, List, [], ◌∷◌, take, drop, reverse, Option, Some, None, refl, sym, ap}
+use Rattle.std.proofs.Common.{◌≡◌, ℕ, ◌+◌, ◌-◌, ◌∙◌, Bool, true, false, List, [], ◌∷◌, take, drop, reverse, Option}
+use Rattle.std.proofs.Common.{Some, None, refl, sym, ap}
 use Rattle.std.specs.Prelude.{nat_le, option_map}
 use Rattle.pat_tree.specs.declared.options.PartialMode.TheVariants.{Off, Soft, Hard}
 use Rattle.pat_tree.specs.declared.nodes.Item.{Item}
 use Rattle.pat_tree.specs.declared.nodes.AnchorKind.{AnchorKind}
-use Rattle.match_items.specs.Items.{one_less, is_none_left, item_reaches, longest_run, run_reaches, after_ref, ref_reaches, holds, anchor_reaches, earliest}
+use Rattle.match_items.specs.Items.{one_less, is_none_left, item_reaches, longest_run, run_reaches, after_ref}
+use Rattle.match_items.specs.Items.{ref_reaches, holds, anchor_reaches, earliest}
 use Rattle.frame_store.specs.Captures.{capture}
-use Rattle.ordered_search.specs.Stream.{State, VerbEnding, next_branch, prune, skip, commit, is_partial, too_many_units, exhausted, by_verb, by_halt, hit_end, How, reached, accepted, note, state, step, Stream, Search, ends, ◌▸◌, nothing, gives, ◌or_else◌, each, go_on, catch, is_next_branch, is_verb, decide, no_ending, fails_alone, fails_inside}
+use Rattle.ordered_search.specs.Stream.{State, VerbEnding, next_branch, prune, skip, commit, is_partial}
+use Rattle.ordered_search.specs.Stream.{too_many_units, exhausted, by_verb, by_halt, hit_end, How, reached, accepted}
+use Rattle.ordered_search.specs.Stream.{note, state, step, Stream, Search, ends, ◌▸◌, nothing, gives, ◌or_else◌}
+use Rattle.ordered_search.specs.Stream.{each, go_on, catch, is_next_branch, is_verb, decide, no_ending, fails_alone}
+use Rattle.ordered_search.specs.Stream.{fails_inside}
 use Rattle.ordered_search.specs.Setting.{Setting, held, hold, counts, reach, reach_if}
-use Rattle.ordered_search.specs.Tests.{move_to, goes_to, run_ref, run_anchor, offers, greedy, offer_and, reluctant, lazy_run, run_many}
+use Rattle.ordered_search.specs.Tests.{move_to, goes_to, run_ref, run_anchor, offers, greedy, offer_and, reluctant}
+use Rattle.ordered_search.specs.Tests.{lazy_run, run_many}
 use Rattle.ordered_search.specs.Parts.{in_order}
-use Rattle.ordered_search.specs.Moves.{Moves, stops, pause, stepped, noted, found, Follow, Handler, Path, before, catching, going, holding, reaching}
-use Rattle.ordered_search.specs.Paths.{ref_path, anchor_path, offer_paths, offer_path, lazy_paths, many_paths, go_path, parts_path}
+use Rattle.ordered_search.specs.Moves.{Moves, stops, pause, stepped, noted, found, Follow, Handler, Path, before}
+use Rattle.ordered_search.specs.Moves.{catching, going, holding, reaching}
+use Rattle.ordered_search.specs.Paths.{ref_path, anchor_path, offer_paths, offer_path, lazy_paths, many_paths}
+use Rattle.ordered_search.specs.Paths.{go_path, parts_path}
 
 unfoldable pub strip : Moves → Moves
 strip (stops e) = stops e
@@ -22,7 +31,8 @@ strip (found how s x) = found how s (strip x)
 
 -- What follows a stream that is made of others.
 
-pub before_or_else : (x y : Stream) (k : Follow) (f : Moves) (h : Handler) → before (x or_else y) k f h ≡ before x k (before y k f h) h
+pub before_or_else : (x y : Stream) (k : Follow) (f : Moves) (h : Handler)
+    → before (x or_else y) k f h ≡ before x k (before y k f h) h
 unfolding before ◌or_else◌
 before_or_else (ends exhausted) y k f h = refl
 before_or_else (ends (by_verb v)) y k f h = refl
@@ -56,7 +66,8 @@ before_catch (state how s ▸ x) k f h = ap (k how s) (before_catch x k f h)
 before_catch (step ▸ x) k f h = ap stepped (before_catch x k f h)
 
 -- each verb is caught
-pub before_catch_verb : (x : Stream) (k : Follow) (f : Moves) (h : Handler) → before (catch is_verb x) k f h ≡ before x k f (λ v. f)
+pub before_catch_verb : (x : Stream) (k : Follow) (f : Moves) (h : Handler)
+    → before (catch is_verb x) k f h ≡ before x k f (λ v. f)
 unfolding before catch
 before_catch_verb (ends exhausted) k f h = refl
 before_catch_verb (ends (by_verb v)) k f h = refl
@@ -105,7 +116,8 @@ before_first_alone (step ▸ x) w k f h = ap stepped (before_first_alone x w k f
 
 -- and where there is none, y stands otherwise
 pub before_first_inside : (x : Stream) (w : How → Search) (y : Stream) (k : Follow) (f : Moves) (h : Handler) →
-    before (decide fails_inside x w y) k f h ≡ before x (λ how s e. before (w how s) k f h) (before y k f h) (λ v. before y k f h)
+    before (decide fails_inside x w y) k f h ≡ before x (λ how s e. before (w how s) k f h) (before y k f h)
+    (λ v. before y k f h)
 unfolding before decide
 before_first_inside (ends exhausted) w y k f h = refl
 before_first_inside (ends (by_verb v)) w y k f h = refl
@@ -128,7 +140,8 @@ strip_catching f h j r = record {
 
 -- the path is the search
 pub record IsSearch (p : Path) (x : Search) : Type 0 where
-  pub is : (s : State) (k l : Follow) (f : Moves) (h j : Handler) → IsStripped k l → AreStripped h j → strip (p s k f h) ≡ before (x s) l (strip f) j
+  pub is : (s : State) (k l : Follow) (f : Moves) (h j : Handler) → IsStripped k l → AreStripped h j
+      → strip (p s k f h) ≡ before (x s) l (strip f) j
 
 -- one place at most
 pub strip_going : (o : Option ℕ) (s : State) (k l : Follow) (f : Moves) (j : Handler) → IsStripped k l →
@@ -144,7 +157,8 @@ ArePaths [] [] = Unit {0}
 ArePaths (p ∷ ps) (x ∷ xs) = IsSearch p x × ArePaths ps xs
 ArePaths _ _ = ⊥
 
-go_on_stripped : (p : Path) (x : Search) (k l : Follow) (h j : Handler) → IsSearch p x → IsStripped k l → AreStripped h j →
+go_on_stripped : (p : Path) (x : Search) (k l : Follow) (h j : Handler) → IsSearch p x → IsStripped k l
+    → AreStripped h j →
     IsStripped (go_path p k h) (λ how s e. before (go_on x how s) l e j)
 unfolding before go_path
 go_on_stripped p x k l h j i e r = record {
@@ -200,24 +214,29 @@ module _ (g : Setting) where
         | Off ↦ e
         | Soft ↦
             elim (counts g s)
-            as (λ b. strip (elim b [ true ↦ noted hit_end y | false ↦ y ]) ≡ before (elim b [ true ↦ note hit_end ▸ x | false ↦ x ]) l f j) [
+            as (λ b. strip (elim b [ true ↦ noted hit_end y | false ↦ y ]) ≡ before
+            (elim b [ true ↦ note hit_end ▸ x | false ↦ x ]) l f j) [
               | true ↦ ap (noted hit_end) e
               | false ↦ e
             ]
         | Hard ↦
             elim (counts g s)
-            as (λ b. strip (elim b [ true ↦ stops (by_halt is_partial) | false ↦ y ]) ≡ before (elim b [ true ↦ ends (by_halt is_partial) | false ↦ x ]) l f j) [
+            as (λ b. strip (elim b [ true ↦ stops (by_halt is_partial) | false ↦ y ]) ≡ before
+            (elim b [ true ↦ ends (by_halt is_partial) | false ↦ x ]) l f j) [
               | true ↦ refl
               | false ↦ e
             ]
       ]
 
-  pub strip_if : (b : Bool) (x y : Moves) (u v : Stream) (l : Follow) (f : Moves) (j : Handler) → strip x ≡ before u l f j →
-      strip y ≡ before v l f j → strip (elim b [ true ↦ x | false ↦ y ]) ≡ before (elim b [ true ↦ u | false ↦ v ]) l f j
+  pub strip_if : (b : Bool) (x y : Moves) (u v : Stream) (l : Follow) (f : Moves) (j : Handler)
+      → strip x ≡ before u l f j →
+      strip y ≡ before v l f j → strip (elim b [ true ↦ x | false ↦ y ]) ≡ before (elim b [ true ↦ u | false ↦ v ]) l
+      f j
   strip_if true x y u v l f j a b = a
   strip_if false x y u v l f j a b = b
 
-  pub strip_ref : (ns : List ℕ) (caseless : Bool) (s : State) (k l : Follow) (f : Moves) (j : Handler) → IsStripped k l →
+  pub strip_ref : (ns : List ℕ) (caseless : Bool) (s : State) (k l : Follow) (f : Moves) (j : Handler)
+      → IsStripped k l →
       strip (ref_path g ns caseless s k f) ≡ before (run_ref g ns caseless s) l (strip f) j
   unfolding before run_ref
   strip_ref [] caseless s k l f j e =
@@ -246,7 +265,8 @@ module _ (g : Setting) where
   strip_anchor kind s k l f j e =
       let t : State = record s { early = earliest g.scene kind s.place s.early } in
       strip_reaching (anchor_reaches g.scene kind s.place) t _ _ l (strip f) j
-      (strip_if (holds g.scene kind s.place) (k reached t f) f (gives reached t) nothing l (strip f) j (e.same reached t f) refl)
+      (strip_if (holds g.scene kind s.place) (k reached t f) f (gives reached t) nothing l (strip f) j
+      (e.same reached t f) refl)
 
   -- Repeats of one item.
 
@@ -259,7 +279,8 @@ module _ (g : Setting) where
       ap stepped
       (strip_hold reached (move_to p s) (λ t. k reached t (pause (offer_paths g (q ∷ ps) s k f))) l
       (before (offers g (q ∷ ps) s) l (strip f) j) j
-      (λ t. e.same reached t (pause (offer_paths g (q ∷ ps) s k f)) ∙ ap (l reached t) (strip_offers (q ∷ ps) s k l f j e))
+      (λ t. e.same reached t (pause (offer_paths g (q ∷ ps) s k f))
+      ∙ ap (l reached t) (strip_offers (q ∷ ps) s k l f j e))
       ∙ sym (before_or_else (hold g reached (move_to p s)) (offers g (q ∷ ps) s) l (strip f) j))
 
   strip_offer : (b : Bool) (s : State) (k l : Follow) (x f : Moves) (y : Stream) (j : Handler) → IsStripped k l →
@@ -272,16 +293,20 @@ module _ (g : Setting) where
       (λ t. e.same reached t (pause x) ∙ ap (l reached t) h)
       ∙ sym (before_or_else (hold g reached s) y l (strip f) j))
 
-  strip_lazy : (item : Item) (left : Option ℕ) (ps : List ℕ) (s : State) (k l : Follow) (f : Moves) (j : Handler) → IsStripped k l →
+  strip_lazy : (item : Item) (left : Option ℕ) (ps : List ℕ) (s : State) (k l : Follow) (f : Moves) (j : Handler)
+      → IsStripped k l →
       strip (lazy_paths g item left ps s k f) ≡ before (reluctant g item left ps s) l (strip f) j
   unfolding before reluctant lazy_paths
   strip_lazy item left [] s k l f j e = refl
   strip_lazy item left (p ∷ ps) s k l f j e =
       strip_offer (is_none_left left) (move_to p s) k l _ f _ j e
-      (strip_reaching (item_reaches g.scene item p) s _ _ l (strip f) j (strip_lazy item (one_less left) ps s k l f j e))
+      (strip_reaching (item_reaches g.scene item p) s _ _ l (strip f) j
+      (strip_lazy item (one_less left) ps s k l f j e))
 
-  pub strip_many : (item : Item) (low : ℕ) (high : Option ℕ) (lazily : Bool) (s : State) (k l : Follow) (f : Moves) (j : Handler) → IsStripped k l →
-      strip (many_paths g item low high lazily (longest_run g.scene item high s.place) s k f) ≡ before (run_many g item low high lazily s) l (strip f) j
+  pub strip_many : (item : Item) (low : ℕ) (high : Option ℕ) (lazily : Bool) (s : State) (k l : Follow) (f : Moves)
+      (j : Handler) → IsStripped k l →
+      strip (many_paths g item low high lazily (longest_run g.scene item high s.place) s k f) ≡ before
+      (run_many g item low high lazily s) l (strip f) j
   unfolding run_many greedy lazy_run many_paths
   strip_many item low high false s k l f j e =
       let ps : List ℕ = longest_run g.scene item high s.place in

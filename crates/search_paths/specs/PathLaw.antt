@@ -10,4 +10,5 @@ use Rattle.ordered_search.specs.Paths.{paths}
 abbrev pub PathLaw : Type 0
 PathLaw =
     (g : Setting) (p : ℕ)
-    → tread g (match_limit g) (paths g (match_limit g + 1) g.whole (first_state g.groups p) at_end exhaust at_verbs) ≡ place_answer g p
+    → tread g (match_limit g) (paths g (match_limit g + 1) g.whole (first_state g.groups p) at_end exhaust at_verbs)
+    ≡ place_answer g p

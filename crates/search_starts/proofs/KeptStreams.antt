@@ -1,7 +1,9 @@
--- Streams whose states are all reached and of one kind, which tell nothing beside them and end when they are exhausted or
--- by a limit.
+-- Streams whose states are all reached and of one kind, which tell nothing beside them and end when they are exhausted
+-- or by a limit.
 use Rattle.std.proofs.Common.{Bool, true, false, Option, Some, None}
-use Rattle.ordered_search.specs.Stream.{State, too_many_units, cut, Ending, exhausted, by_verb, by_halt, How, reached, accepted, note, state, step, Stream, Search, ends, ◌▸◌, nothing, gives, ◌or_else◌, each, go_on, and_then, decide, catch}
+use Rattle.ordered_search.specs.Stream.{State, too_many_units, cut, Ending, exhausted, by_verb, by_halt, How}
+use Rattle.ordered_search.specs.Stream.{reached, accepted, note, state, step, Stream, Search, ends, ◌▸◌, nothing}
+use Rattle.ordered_search.specs.Stream.{gives, ◌or_else◌, each, go_on, and_then, decide, catch}
 
 abbrev IsQuiet : Ending → Type 0
 IsQuiet exhausted = Unit {0}
@@ -66,7 +68,8 @@ module _ (P : State → Type 0) where
 
 -- From one kind of states to another.
 module _ (P Q : State → Type 0) where
-  pub kept_each : (x : Stream) (f : How → Search) → Kept P x → ((s : State) → P s → Kept Q (f reached s)) → Kept Q (each x f)
+  pub kept_each : (x : Stream) (f : How → Search) → Kept P x → ((s : State) → P s → Kept Q (f reached s))
+      → Kept Q (each x f)
   unfolding Kept each
   kept_each (ends e) f h k = h
   kept_each (note m ▸ x) f h k = absurd h

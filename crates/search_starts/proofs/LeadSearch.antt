@@ -1,6 +1,7 @@
--- From a place whose byte no match of a tree begins with, a search for the tree reaches no state, or stays there where the
--- tree may be passed without a byte.
-use Rattle.std.proofs.Common.{◌≡◌, ℕ, zero, suc, ◌+◌, ◌-◌, ◌<◌, Bool, true, false, ◌||◌, List, [], ◌∷◌, length, drop, reverse, Option, Some, None, inl, inr, refl, sym, ap, subst, ◌∙◌, arith}
+-- From a place whose byte no match of a tree begins with, a search for the tree reaches no state, or stays there where
+-- the tree may be passed without a byte.
+use Rattle.std.proofs.Common.{◌≡◌, ℕ, zero, suc, ◌+◌, ◌-◌, ◌<◌, Bool, true, false, ◌||◌, List, [], ◌∷◌, length, drop}
+use Rattle.std.proofs.Common.{reverse, Option, Some, None, inl, inr, refl, sym, ap, subst, ◌∙◌, arith}
 use Rattle.std.specs.Prelude.{nat_le, ◌==◌, option_map, slice_index}
 use Rattle.std.proofs.lemmas.Bool.{or_left, or_right, or_parts}
 use Rattle.pat_tree.specs.declared.options.PartialMode.{PartialMode}
@@ -13,17 +14,26 @@ use Rattle.pat_tree.specs.Newlines.{end_kind, break_kind}
 use Rattle.pat_tree.specs.Rules.{AtMost}
 use Rattle.ordered_search.specs.pat_check.Lead as first
 use Rattle.ordered_search.specs.pat_check.Lead.{Lead, SomeLead, no_byte, then_lead, either_lead, repeated_lead}
-use Rattle.match_items.specs.Items.{one_less, is_none_left, places_back, item_reaches, after_ref, ref_reaches, holds, anchor_reaches, after_item, after_break, run_places, longest_run}
+use Rattle.match_items.specs.Items.{one_less, is_none_left, places_back, item_reaches, after_ref, ref_reaches, holds}
+use Rattle.match_items.specs.Items.{anchor_reaches, after_item, after_break, run_places, longest_run}
 use Rattle.match_items.specs.Subjects.{IsText}
 use Rattle.pat_lengths.specs.Lengths.{SomeLengths}
 use Rattle.frame_store.specs.Captures.{capture}
-use Rattle.ordered_search.specs.Stream.{State, reached, Stream, Search, nothing, gives, no_ending, is_next_branch, fails_alone, fails_inside, captured}
+use Rattle.ordered_search.specs.Stream.{State, reached, Stream, Search, nothing, gives, no_ending, is_next_branch}
+use Rattle.ordered_search.specs.Stream.{fails_alone, fails_inside, captured}
 use Rattle.ordered_search.specs.Setting.{Setting, branch_lengths, held, hold, reach, reach_if}
-use Rattle.ordered_search.specs.Tests.{move_to, goes_to, run_one, run_break, run_ref, run_anchor, offers, greedy, offer_and, reluctant, lazy_run, run_many}
-use Rattle.ordered_search.specs.Parts.{Searches, in_order, choices, branches, run_group, begun_at, ends_at, one_try, tries, tries_within, run_behind, run_atomic, run_look, asserts, tests, some_set, is_called, is_called_of, is_over, turn, run_repeat, back_to, forget_passed}
+use Rattle.ordered_search.specs.Tests.{move_to, goes_to, run_one, run_break, run_ref, run_anchor, offers, greedy}
+use Rattle.ordered_search.specs.Tests.{offer_and, reluctant, lazy_run, run_many}
+use Rattle.ordered_search.specs.Parts.{Searches, in_order, choices, branches, run_group, begun_at, ends_at, one_try}
+use Rattle.ordered_search.specs.Parts.{tries, tries_within, run_behind, run_atomic, run_look, asserts, tests}
+use Rattle.ordered_search.specs.Parts.{some_set, is_called, is_called_of, is_over, turn, run_repeat, back_to}
+use Rattle.ordered_search.specs.Parts.{forget_passed}
 use Rattle.ordered_search.specs.Run.{level, levels, levels_behind, level_test, level_other, run}
-use Rattle.search_starts.specs.StartLaw.{IsUnverbed, AreUnverbed, IsUnverbedTest, IsUnverbedOther, IsDefinition, IsRegular, AreRegular, IsRegularTest, IsRegularOther}
-use Rattle.search_starts.proofs.KeptStreams.{Kept, kept_nothing, kept_cut, kept_full, kept_gives, kept_if, kept_option, kept_step, kept_or_else, kept_catch, kept_each, kept_and_then, kept_decide, kept_more}
+use Rattle.search_starts.specs.StartLaw.{IsUnverbed, AreUnverbed, IsUnverbedTest, IsUnverbedOther, IsDefinition}
+use Rattle.search_starts.specs.StartLaw.{IsRegular, AreRegular, IsRegularTest, IsRegularOther}
+use Rattle.search_starts.proofs.KeptStreams.{Kept, kept_nothing, kept_cut, kept_full, kept_gives, kept_if}
+use Rattle.search_starts.proofs.KeptStreams.{kept_option, kept_step, kept_or_else, kept_catch, kept_each}
+use Rattle.search_starts.proofs.KeptStreams.{kept_and_then, kept_decide, kept_more}
 use Rattle.search_starts.proofs.LeadItems.{Out, Here, item_lead, break_lead, none_here, none_run, no_break}
 
 -- any state
@@ -57,7 +67,8 @@ quiet_one_try [] f h s = kept_nothing Any
 quiet_one_try (p ∷ ps) f h s = h (begun_at p s)
 
 module _ (g : Setting) where
-  kept_held : (P : State → Type 0) (k : ℕ) (s : State) (f : Search) → Kept P (f (record s { units = s.units + k })) → Kept P (held g k s f)
+  kept_held : (P : State → Type 0) (k : ℕ) (s : State) (f : Search) → Kept P (f (record s { units = s.units + k }))
+      → Kept P (held g k s f)
   unfolding held
   kept_held P k s f h = kept_if P (nat_le (s.units + k) g.matching.frame_limit) _ _ h (kept_full P)
 
@@ -65,7 +76,8 @@ module _ (g : Setting) where
   unfolding hold
   kept_hold P s h = kept_held P 1 s (gives reached) (kept_gives P _ h)
 
-  kept_mode : (P : State → Type 0) (mode : PartialMode) (x y z : Stream) → mode ≡ Off → Kept P x → Kept P (elim mode [ Off ↦ x | Soft ↦ y | Hard ↦ z ])
+  kept_mode : (P : State → Type 0) (mode : PartialMode) (x y z : Stream) → mode ≡ Off → Kept P x
+      → Kept P (elim mode [ Off ↦ x | Soft ↦ y | Hard ↦ z ])
   kept_mode P Off x y z e h = h
   kept_mode P Soft x y z e h = absurd cc
   kept_mode P Hard x y z e h = absurd cc
@@ -93,7 +105,8 @@ module _ (g : Setting) where
         (quiet_goes (after_ref g.scene span.from span.to caseless s.place) s))
 
     -- an assertion stays at its place
-    kept_anchor : (P : State → Type 0) (kind : AnchorKind) (s : State) → ((e : ℕ) → P (record s { early = e })) → Kept P (run_anchor g kind s)
+    kept_anchor : (P : State → Type 0) (kind : AnchorKind) (s : State) → ((e : ℕ) → P (record s { early = e }))
+        → Kept P (run_anchor g kind s)
     unfolding run_anchor
     kept_anchor P kind s h =
         kept_reach_if P (anchor_reaches g.scene kind s.place) _ _
@@ -103,9 +116,11 @@ module _ (g : Setting) where
     unfolding offers
     quiet_offers [] s = kept_nothing Any
     quiet_offers (p ∷ []) s = kept_step Any _ (kept_gives Any _ tt)
-    quiet_offers (p ∷ q ∷ ps) s = kept_step Any _ (kept_or_else Any _ _ (kept_hold Any (move_to p s) tt) (quiet_offers (q ∷ ps) s))
+    quiet_offers (p ∷ q ∷ ps) s =
+        kept_step Any _ (kept_or_else Any _ _ (kept_hold Any (move_to p s) tt) (quiet_offers (q ∷ ps) s))
 
-    kept_offer_and : (P : State → Type 0) (b : Bool) (s : State) (x : Stream) → P s → P (record s { units = s.units + 1 }) → Kept P x →
+    kept_offer_and : (P : State → Type 0) (b : Bool) (s : State) (x : Stream) → P s
+        → P (record s { units = s.units + 1 }) → Kept P x →
         Kept P (offer_and g b s x)
     kept_offer_and P true s x i j h = kept_step P _ (kept_gives P s i)
     kept_offer_and P false s x i j h = kept_step P _ (kept_or_else P _ _ (kept_hold P s j) h)
@@ -120,7 +135,8 @@ module _ (g : Setting) where
     quiet_many : (item : Item) (low : ℕ) (high : Option ℕ) (lazily : Bool) → Quiet (run_many g item low high lazily)
     unfolding run_many greedy lazy_run
     quiet_many item low high false s = kept_reach_if Any _ s _ (quiet_offers _ s)
-    quiet_many item low high true s = kept_reach_if Any _ s _ (quiet_reluctant item _ (drop low (s.place ∷ longest_run g.scene item high s.place)) s)
+    quiet_many item low high true s = kept_reach_if Any _ s _
+        (quiet_reluctant item _ (drop low (s.place ∷ longest_run g.scene item high s.place)) s)
 
     quiet_choices : (fs : List Search) → AllQuiet fs → Quiet (choices g fs)
     unfolding choices
@@ -140,7 +156,8 @@ module _ (g : Setting) where
     quiet_tries : (ps : List ℕ) (f : Search) → Quiet f → Quiet (tries g ps f)
     unfolding tries
     quiet_tries [] f h s = kept_nothing Any
-    quiet_tries (p ∷ []) f h s = kept_step Any _ (kept_and_then Any Any _ _ (h (begun_at p s)) (λ u i. quiet_ends_at s.place u))
+    quiet_tries (p ∷ []) f h s =
+        kept_step Any _ (kept_and_then Any Any _ _ (h (begun_at p s)) (λ u i. quiet_ends_at s.place u))
     quiet_tries (p ∷ q ∷ ps) f h s =
         kept_step Any _ (kept_or_else Any _ _
         (kept_held Any 1 s _ (kept_and_then Any Any _ _ (h _) (λ u i. quiet_ends_at s.place u)))
@@ -172,19 +189,22 @@ module _ (g : Setting) where
           Kept P (f (record s { units = s.units + 1 })) → Kept P (run_atomic g f s)
       unfolding run_atomic
       kept_atomic f s i h =
-          kept_held P 1 s _ (kept_decide P P no_ending _ _ nothing h (λ u a. kept_hold P _ (units _ _ (i u a))) (kept_nothing P))
+          kept_held P 1 s _ (kept_decide P P no_ending _ _ nothing h (λ u a. kept_hold P _ (units _ _ (i u a)))
+          (kept_nothing P))
 
     -- back from a lookaround, whatever it reached
     kept_look : (P : State → Type 0) (positive once : Bool) (f : Search) (s : State) → Quiet f → P s →
         ((u : State) → P (back_to s u)) → Kept P (run_look g positive once f s)
     unfolding run_look
     kept_look P true true f s h i j =
-        kept_held P 1 s _ (kept_decide Any P fails_alone _ _ nothing (h _) (λ u a. kept_hold P _ (j (record (forget_passed s u) { units = u.units + 1 })))
+        kept_held P 1 s _ (kept_decide Any P fails_alone _ _ nothing (h _)
+        (λ u a. kept_hold P _ (j (record (forget_passed s u) { units = u.units + 1 })))
         (kept_nothing P))
     kept_look P true false f s h i j =
         kept_held P 1 s _ (kept_catch P fails_alone _ (kept_each Any P _ _ (h _) (λ u a. kept_gives P _ (j u))))
     kept_look P false once f s h i j =
-        kept_held P 1 s _ (kept_decide Any P fails_inside _ _ (gives reached s) (h _) (λ u a. kept_nothing P) (kept_gives P s i))
+        kept_held P 1 s _ (kept_decide Any P fails_inside _ _ (gives reached s) (h _) (λ u a. kept_nothing P)
+        (kept_gives P s i))
 
     kept_asserts : (P : State → Type 0) (positive : Bool) (x yes' no' : Search) (s : State) → Quiet x →
         ((u : State) → u.place ≡ s.place → Kept P (yes' u)) → ((u : State) → u.place ≡ s.place → Kept P (no' u)) →
@@ -217,13 +237,15 @@ module _ (g : Setting) where
       less_ordered low None h = tt
       less_ordered low (Some high) h = omega (arith, h)
 
-      quiet_turn : (body : Nested) (low : ℕ) (high : Option ℕ) (lazily : Bool) → IsUnverbed body → AtMost low high × IsRegular body →
+      quiet_turn : (body : Nested) (low : ℕ) (high : Option ℕ) (lazily : Bool) → IsUnverbed body
+          → AtMost low high × IsRegular body →
           Quiet (turn g below body low high lazily)
       quiet_turn body low high lazily h k s =
           kept_turn Any body low high lazily s (quiet body h k.1 _)
           (λ u i. quiet (tree.repeat body (low - 1) (one_less high) lazily) h (less_ordered low high k.0, k.1) u)
 
-      quiet_repeat : (body : Nested) (low : ℕ) (high : Option ℕ) (lazily : Bool) → IsUnverbed body → AtMost low high × IsRegular body →
+      quiet_repeat : (body : Nested) (low : ℕ) (high : Option ℕ) (lazily : Bool) → IsUnverbed body
+          → AtMost low high × IsRegular body →
           Quiet (run_repeat g below body low high lazily)
       unfolding run_repeat
       quiet_repeat body (suc low) high lazily h k s = quiet_turn body (suc low) high lazily h k s
@@ -274,16 +296,19 @@ module _ (g : Setting) where
         quiet_levels_behind (tree.more t ts) h k =
             (quiet_behind (branch_lengths g t) _ (quiet_level t h.0 k.0), quiet_levels_behind ts h.1 k.1)
 
-        quiet_test : (test : Test) → IsUnverbedTest test → IsRegularTest test → (yes' no' : Search) → Quiet yes' → Quiet no' →
+        quiet_test : (test : Test) → IsUnverbedTest test → IsRegularTest test → (yes' no' : Search) → Quiet yes'
+            → Quiet no' →
             Quiet (level_test g below test yes' no')
         quiet_test (tree.any_set ns) h k yes' no' i j s = kept_tests Any (some_set s.caps ns) yes' no' s (i s) (j s)
         quiet_test tree.in_call h k yes' no' i j s = kept_tests Any (is_called s.calls) yes' no' s (i s) (j s)
-        quiet_test (tree.in_call_of ns) h k yes' no' i j s = kept_tests Any (is_called_of s.calls ns) yes' no' s (i s) (j s)
+        quiet_test (tree.in_call_of ns) h k yes' no' i j s =
+            kept_tests Any (is_called_of s.calls ns) yes' no' s (i s) (j s)
         quiet_test tree.never h k yes' no' i j s = j s
         quiet_test (tree.assert true positive once ts) h k yes' no' i j s =
             kept_asserts Any positive _ yes' no' s (quiet_branches _ (quiet_levels ts h k)) (λ u e. i u) (λ u e. j u)
         quiet_test (tree.assert false positive once ts) h k yes' no' i j s =
-            kept_asserts Any positive _ yes' no' s (quiet_branches _ (quiet_levels_behind ts h k)) (λ u e. i u) (λ u e. j u)
+            kept_asserts Any positive _ yes' no' s (quiet_branches _ (quiet_levels_behind ts h k)) (λ u e. i u)
+            (λ u e. j u)
         quiet_test (tree.called c test) h k yes' no' i j s = absurd h
 
         quiet_other : (o : Other) → IsUnverbedOther o → IsRegularOther o → Quiet (level_other g below o)
@@ -296,7 +321,8 @@ module _ (g : Setting) where
     quiet_run (suc d) t h k s = quiet_level (run g d) (quiet_run d) t h k s
 
     -- From the place, where no match begins.
-    module _ (bytes : (k : ℕ) → k < length g.subject → slice_index g.subject k < 256) (text : IsText g.options g.subject) (p : ℕ) (here : Here g p) where
+    module _ (bytes : (k : ℕ) → k < length g.subject → slice_index g.subject k < 256)
+        (text : IsText g.options g.subject) (p : ℕ) (here : Here g p) where
       -- at the place, and the tree may be passed
       abbrev pub Stays : Bool → State → Type 0
       Stays b s = (s.place ≡ p) × (b ≡ true)
@@ -310,23 +336,28 @@ module _ (g : Setting) where
 
       abbrev pub lead_of : Nested → SomeLead
       lead_of t =
-          first.lead g.options.utf (end_kind g.options.newline g.options.utf) (break_kind g.options.bsr g.options.utf) g.class_has g.fold t
+          first.lead g.options.utf (end_kind g.options.newline g.options.utf) (break_kind g.options.bsr g.options.utf)
+          g.class_has g.fold t
 
       abbrev turn_lead : Row → SomeLead
       turn_lead ts =
-          first.lead_in_turn g.options.utf (end_kind g.options.newline g.options.utf) (break_kind g.options.bsr g.options.utf) g.class_has g.fold ts
+          first.lead_in_turn g.options.utf (end_kind g.options.newline g.options.utf)
+          (break_kind g.options.bsr g.options.utf) g.class_has g.fold ts
 
       abbrev one_lead : Row → SomeLead
       one_lead ts =
-          first.lead_of_one g.options.utf (end_kind g.options.newline g.options.utf) (break_kind g.options.bsr g.options.utf) g.class_has g.fold ts
+          first.lead_of_one g.options.utf (end_kind g.options.newline g.options.utf)
+          (break_kind g.options.bsr g.options.utf) g.class_has g.fold ts
 
       abbrev other_lead : Other → SomeLead
       other_lead o =
-          first.lead_of_other g.options.utf (end_kind g.options.newline g.options.utf) (break_kind g.options.bsr g.options.utf) g.class_has g.fold o
+          first.lead_of_other g.options.utf (end_kind g.options.newline g.options.utf)
+          (break_kind g.options.bsr g.options.utf) g.class_has g.fold o
 
       abbrev test_lead : Test → SomeLead → SomeLead
       test_lead test x =
-          first.lead_of_test g.options.utf (end_kind g.options.newline g.options.utf) (break_kind g.options.bsr g.options.utf) g.class_has g.fold test x
+          first.lead_of_test g.options.utf (end_kind g.options.newline g.options.utf)
+          (break_kind g.options.bsr g.options.utf) g.class_has g.fold test x
 
       out_left : (a b : ℕ → Bool) → Out g p (λ c. a c || b c) → Out g p a
       out_left a b (inl e) = inl e
@@ -366,14 +397,16 @@ module _ (g : Setting) where
       no_offers zero b s = kept_nothing (Stays b)
       no_offers (suc n) b s = kept_nothing (Stays b)
 
-      none_reluctant : (item : Item) (left : Option ℕ) (n : ℕ) (b : Bool) (s : State) → Kept (Stays b) (reluctant g item left (drop n []) s)
+      none_reluctant : (item : Item) (left : Option ℕ) (n : ℕ) (b : Bool) (s : State)
+          → Kept (Stays b) (reluctant g item left (drop n []) s)
       unfolding reluctant
       none_reluctant item left zero b s = kept_nothing (Stays b)
       none_reluctant item left (suc n) b s = kept_nothing (Stays b)
 
       -- a run that takes nothing
       many_stays : (item : Item) (low : ℕ) (high : Option ℕ) (lazily b : Bool) (s : State) →
-          longest_run g.scene item high s.place ≡ [] → s.place ≡ p → (low ≡ 0 → b ≡ true) → Kept (Stays b) (run_many g item low high lazily s)
+          longest_run g.scene item high s.place ≡ [] → s.place ≡ p → (low ≡ 0 → b ≡ true)
+          → Kept (Stays b) (run_many g item low high lazily s)
       unfolding run_many greedy lazy_run offers reluctant
       many_stays item zero high false b s none at passed =
           kept_reach_if (Stays b) _ s _
@@ -384,12 +417,14 @@ module _ (g : Setting) where
           (subst (λ (ps : List ℕ). Kept (Stays b) (offers g (reverse (drop low ps)) s)) (sym none) (no_offers low b s))
       many_stays item zero high true b s none at passed =
           kept_reach_if (Stays b) _ s _
-          (subst (λ (ps : List ℕ). Kept (Stays b) (reluctant g item (option_map (λ n. n - 0) high) (s.place ∷ ps) s)) (sym none)
+          (subst (λ (ps : List ℕ). Kept (Stays b) (reluctant g item (option_map (λ n. n - 0) high) (s.place ∷ ps) s))
+          (sym none)
           (kept_offer_and (Stays b) _ (move_to s.place s) _ (at, passed refl) (at, passed refl)
           (kept_reach_if (Stays b) _ s _ (kept_nothing (Stays b)))))
       many_stays item (suc low) high true b s none at passed =
           kept_reach_if (Stays b) _ s _
-          (subst (λ (ps : List ℕ). Kept (Stays b) (reluctant g item (option_map (λ n. n - suc low) high) (drop low ps) s)) (sym none)
+          (subst (λ (ps : List ℕ). Kept (Stays b)
+          (reluctant g item (option_map (λ n. n - suc low) high) (drop low ps) s)) (sym none)
           (none_reluctant item _ low b s))
 
       no_run : (item : Item) (n q : ℕ) → run_places g.scene item n (Some 0) q ≡ []
@@ -397,7 +432,8 @@ module _ (g : Setting) where
       no_run item zero q = refl
       no_run item (suc n) q = refl
 
-      run_is : (item : Item) (high : Option ℕ) (s : State) → s.place ≡ p → Out g p (item_lead g item) → longest_run g.scene item high s.place ≡ []
+      run_is : (item : Item) (high : Option ℕ) (s : State) → s.place ≡ p → Out g p (item_lead g item)
+          → longest_run g.scene item high s.place ≡ []
       run_is item high s at out =
           ap (longest_run g.scene item high) at ∙ none_run g bytes text item (length g.subject) high p here out
 
@@ -405,18 +441,21 @@ module _ (g : Setting) where
           Led (repeated_lead low high (first.begins (item_lead g item))) (run_many g item low high lazily)
       led_many item low (Some zero) lazily = λ out s at.
           many_stays item low (Some 0) lazily true s (no_run item (length g.subject) s.place) at (λ e. refl)
-      led_many item zero None lazily = λ out s at. many_stays item 0 None lazily true s (run_is item None s at out) at (λ e. refl)
+      led_many item zero None lazily = λ out s at. many_stays item 0 None lazily true s (run_is item None s at out) at
+          (λ e. refl)
       led_many item zero (Some (suc n)) lazily = λ out s at.
           many_stays item 0 (Some (suc n)) lazily true s (run_is item (Some (suc n)) s at out) at (λ e. refl)
       led_many item (suc low) None lazily = λ out s at.
           many_stays item (suc low) None lazily false s (run_is item None s at out) at (λ e. absurd (omega (arith, e)))
       led_many item (suc low) (Some (suc n)) lazily = λ out s at.
-          many_stays item (suc low) (Some (suc n)) lazily false s (run_is item (Some (suc n)) s at out) at (λ e. absurd (omega (arith, e)))
+          many_stays item (suc low) (Some (suc n)) lazily false s (run_is item (Some (suc n)) s at out) at
+          (λ e. absurd (omega (arith, e)))
 
       -- Sequences and branches.
 
       led_then_by : (has : ℕ → Bool) (passing : Bool) (y : SomeLead) (f : Search) (fs : List Search) →
-          Led (Some (made has passing)) f → Led y (in_order fs) → Led (then_lead (Some (made has passing)) y) (in_order (f ∷ fs))
+          Led (Some (made has passing)) f → Led y (in_order fs)
+          → Led (then_lead (Some (made has passing)) y) (in_order (f ∷ fs))
       unfolding in_order
       led_then_by has true None f fs h k = tt
       led_then_by has true (Some b) f fs h k = λ out s at.
@@ -426,16 +465,19 @@ module _ (g : Setting) where
           kept_and_then (Stays false) (Stays false) (f s) (in_order fs) (h out s at)
           (λ u i. absurd (let e : false ≡ true = i.1 in cc))
 
-      led_then : (x y : SomeLead) (f : Search) (fs : List Search) → Led x f → Led y (in_order fs) → Led (then_lead x y) (in_order (f ∷ fs))
+      led_then : (x y : SomeLead) (f : Search) (fs : List Search) → Led x f → Led y (in_order fs)
+          → Led (then_lead x y) (in_order (f ∷ fs))
       led_then None y f fs h k = tt
       led_then (Some a) y f fs h k = led_then_by a.has a.passing y f fs h k
 
-      led_choice : (x y : SomeLead) (f : Search) (fs : List Search) → Led x f → Led y (choices g fs) → Led (either_lead x y) (choices g (f ∷ fs))
+      led_choice : (x y : SomeLead) (f : Search) (fs : List Search) → Led x f → Led y (choices g fs)
+          → Led (either_lead x y) (choices g (f ∷ fs))
       unfolding choices
       led_choice None y f fs h k = tt
       led_choice (Some a) None f fs h k = tt
       led_choice (Some a) (Some b) f [] h k = λ out s at.
-          kept_step _ _ (kept_catch _ is_next_branch (f s) (stays_left a.passing b.passing _ (h (out_left a.has b.has out) s at)))
+          kept_step _ _ (kept_catch _ is_next_branch (f s)
+          (stays_left a.passing b.passing _ (h (out_left a.has b.has out) s at)))
       led_choice (Some a) (Some b) f (f' ∷ fs) h k = λ out s at.
           kept_step _ _ (kept_or_else _ _ _
           (kept_held (Stays (a.passing || b.passing)) 1 s _
@@ -448,7 +490,8 @@ module _ (g : Setting) where
 
       -- one of two follows
       led_either : (x y : SomeLead) (f f' h : Search) → Led x f → Led y f' →
-          ((P : State → Type 0) (s : State) → ((u : State) → u.place ≡ s.place → Kept P (f u)) → ((u : State) → u.place ≡ s.place → Kept P (f' u)) → Kept P (h s)) →
+          ((P : State → Type 0) (s : State) → ((u : State) → u.place ≡ s.place → Kept P (f u))
+          → ((u : State) → u.place ≡ s.place → Kept P (f' u)) → Kept P (h s)) →
           Led (either_lead x y) h
       led_either None y f f' h k l i = tt
       led_either (Some a) None f f' h k l i = tt
@@ -471,34 +514,45 @@ module _ (g : Setting) where
           (led : (t : Nested) → IsUnverbed t → IsRegular t → Led (lead_of t) (below t)) where
         -- Repeats.
 
-        later_turns : (has : ℕ → Bool) (passing : Bool) (low : ℕ) (high : Option ℕ) (f : Search) → Led (repeated_lead low high (Some (made has passing))) f →
+        later_turns : (has : ℕ → Bool) (passing : Bool) (low : ℕ) (high : Option ℕ) (f : Search)
+            → Led (repeated_lead low high (Some (made has passing))) f →
             passing ≡ true → Out g p has → (u : State) → u.place ≡ p → Kept (Stays passing) (f u)
         later_turns has passing low (Some zero) f h e out u at =
             kept_more (Stays true) (Stays passing) (f u) (h (inr refl) u at) (λ s i. (i.0, e))
-        later_turns has passing zero None f h e out u at = kept_more (Stays true) (Stays passing) (f u) (h out u at) (λ s i. (i.0, e))
-        later_turns has passing zero (Some (suc n)) f h e out u at = kept_more (Stays true) (Stays passing) (f u) (h out u at) (λ s i. (i.0, e))
+        later_turns has passing zero None f h e out u at =
+            kept_more (Stays true) (Stays passing) (f u) (h out u at) (λ s i. (i.0, e))
+        later_turns has passing zero (Some (suc n)) f h e out u at =
+            kept_more (Stays true) (Stays passing) (f u) (h out u at) (λ s i. (i.0, e))
         later_turns has passing (suc low) None f h e out u at = h out u at
         later_turns has passing (suc low) (Some (suc n)) f h e out u at = h out u at
 
         module _ (body : Nested) (lazily : Bool) where
           abbrev Again : SomeLead → Type 0
-          Again x = (low : ℕ) (high : Option ℕ) → AtMost low high → Led (repeated_lead low high x) (below (tree.repeat body low high lazily))
+          Again x = (low : ℕ) (high : Option ℕ) → AtMost low high
+              → Led (repeated_lead low high x) (below (tree.repeat body low high lazily))
 
-          led_turn : (has : ℕ → Bool) (passing : Bool) → Led (Some (made has passing)) (below body) → Again (Some (made has passing)) →
-              (low : ℕ) (high : Option ℕ) → AtMost low high → Led (Some (made has passing)) (turn g below body low high lazily)
+          led_turn : (has : ℕ → Bool) (passing : Bool) → Led (Some (made has passing)) (below body)
+              → Again (Some (made has passing)) →
+              (low : ℕ) (high : Option ℕ) → AtMost low high → Led (Some (made has passing))
+              (turn g below body low high lazily)
           led_turn has passing h again low high ordered out s at =
               kept_turn below quiet (Stays passing) body low high lazily s (h out _ at)
-              (λ u i. later_turns has passing (low - 1) (one_less high) (below (tree.repeat body (low - 1) (one_less high) lazily))
+              (λ u i. later_turns has passing (low - 1) (one_less high)
+              (below (tree.repeat body (low - 1) (one_less high) lazily))
               (again (low - 1) (one_less high) (less_ordered below quiet low high ordered)) i.1 out u i.0)
 
-          passed_turn : (has : ℕ → Bool) (passing : Bool) → Led (Some (made has passing)) (below body) → Again (Some (made has passing)) →
+          passed_turn : (has : ℕ → Bool) (passing : Bool) → Led (Some (made has passing)) (below body)
+              → Again (Some (made has passing)) →
               (high : Option ℕ) → Led (Some (made has true)) (turn g below body 0 high lazily)
           passed_turn has passing h again None out s at =
-              kept_more (Stays passing) (Stays true) _ (led_turn has passing h again 0 None tt out s at) (λ u i. (i.0, refl))
+              kept_more (Stays passing) (Stays true) _ (led_turn has passing h again 0 None tt out s at)
+              (λ u i. (i.0, refl))
           passed_turn has passing h again (Some n) out s at =
-              kept_more (Stays passing) (Stays true) _ (led_turn has passing h again 0 (Some n) (omega arith) out s at) (λ u i. (i.0, refl))
+              kept_more (Stays passing) (Stays true) _
+              (led_turn has passing h again 0 (Some n) (omega arith) out s at) (λ u i. (i.0, refl))
 
-        led_repeat_by : (body : Nested) (lazily : Bool) (x : SomeLead) → Led x (below body) → Again body lazily x → (low : ℕ) (high : Option ℕ) → AtMost low high →
+        led_repeat_by : (body : Nested) (lazily : Bool) (x : SomeLead) → Led x (below body) → Again body lazily x
+            → (low : ℕ) (high : Option ℕ) → AtMost low high →
             Led (repeated_lead low high x) (run_repeat g below body low high lazily)
         unfolding run_repeat
         led_repeat_by body lazily x h again (suc low) (Some zero) ordered = absurd (omega (arith, ordered))
@@ -507,19 +561,25 @@ module _ (g : Setting) where
         led_repeat_by body lazily None h again (suc low) (Some (suc n)) ordered = tt
         led_repeat_by body lazily None h again zero None ordered = tt
         led_repeat_by body lazily None h again zero (Some (suc n)) ordered = tt
-        led_repeat_by body lazily (Some a) h again (suc low) None ordered = led_turn body lazily a.has a.passing h again (suc low) None ordered
+        led_repeat_by body lazily (Some a) h again (suc low) None ordered =
+            led_turn body lazily a.has a.passing h again (suc low) None ordered
         led_repeat_by body lazily (Some a) h again (suc low) (Some (suc n)) ordered =
             led_turn body lazily a.has a.passing h again (suc low) (Some (suc n)) ordered
         led_repeat_by body true (Some a) h again zero None ordered = λ out s at.
-            kept_or_else (Stays true) _ _ (kept_hold (Stays true) s (at, refl)) (passed_turn body true a.has a.passing h again None out s at)
+            kept_or_else (Stays true) _ _ (kept_hold (Stays true) s (at, refl))
+            (passed_turn body true a.has a.passing h again None out s at)
         led_repeat_by body false (Some a) h again zero None ordered = λ out s at.
-            kept_or_else (Stays true) _ _ (passed_turn body false a.has a.passing h again None out s at) (kept_gives (Stays true) s (at, refl))
+            kept_or_else (Stays true) _ _ (passed_turn body false a.has a.passing h again None out s at)
+            (kept_gives (Stays true) s (at, refl))
         led_repeat_by body true (Some a) h again zero (Some (suc n)) ordered = λ out s at.
-            kept_or_else (Stays true) _ _ (kept_hold (Stays true) s (at, refl)) (passed_turn body true a.has a.passing h again (Some (suc n)) out s at)
+            kept_or_else (Stays true) _ _ (kept_hold (Stays true) s (at, refl))
+            (passed_turn body true a.has a.passing h again (Some (suc n)) out s at)
         led_repeat_by body false (Some a) h again zero (Some (suc n)) ordered = λ out s at.
-            kept_or_else (Stays true) _ _ (passed_turn body false a.has a.passing h again (Some (suc n)) out s at) (kept_gives (Stays true) s (at, refl))
+            kept_or_else (Stays true) _ _ (passed_turn body false a.has a.passing h again (Some (suc n)) out s at)
+            (kept_gives (Stays true) s (at, refl))
 
-        led_repeat : (body : Nested) (low : ℕ) (high : Option ℕ) (lazily : Bool) → IsUnverbed body → AtMost low high × IsRegular body →
+        led_repeat : (body : Nested) (low : ℕ) (high : Option ℕ) (lazily : Bool) → IsUnverbed body
+            → AtMost low high × IsRegular body →
             Led (repeated_lead low high (lead_of body)) (run_repeat g below body low high lazily)
         unfolding first.lead
         led_repeat body low high lazily h k =
@@ -528,7 +588,8 @@ module _ (g : Setting) where
 
         -- Conditions.
 
-        led_condition : (test : Test) (second : Other) (x y : SomeLead) (f : Search) → IsDefinition test second → IsUnverbedTest test → IsRegularTest test →
+        led_condition : (test : Test) (second : Other) (x y : SomeLead) (f : Search) → IsDefinition test second
+            → IsUnverbedTest test → IsRegularTest test →
             Led x f → Led y (level_other g below second) →
             Led (test_lead test (either_lead x y)) (level_test g below test f (level_other g below second))
         unfolding level first.lead
@@ -545,10 +606,12 @@ module _ (g : Setting) where
             (λ P s a b. kept_tests P (is_called_of s.calls ns) f (level_other g below second) s (a s refl) (b s refl))
         led_condition (tree.assert true positive once ts) second x y f d h k i j =
             led_either x y f (level_other g below second) _ i j
-            (λ P s a b. kept_asserts P positive _ f (level_other g below second) s (quiet_branches _ (quiet_levels below quiet ts h k)) a b)
+            (λ P s a b. kept_asserts P positive _ f (level_other g below second) s
+            (quiet_branches _ (quiet_levels below quiet ts h k)) a b)
         led_condition (tree.assert false positive once ts) second x y f d h k i j =
             led_either x y f (level_other g below second) _ i j
-            (λ P s a b. kept_asserts P positive _ f (level_other g below second) s (quiet_branches _ (quiet_levels_behind below quiet ts h k)) a b)
+            (λ P s a b. kept_asserts P positive _ f (level_other g below second) s
+            (quiet_branches _ (quiet_levels_behind below quiet ts h k)) a b)
         led_condition (tree.called c test) second x y f d h k i j = absurd h
 
         mutual
@@ -559,16 +622,21 @@ module _ (g : Setting) where
           led_level (tree.one item) h k = led_one item
           led_level tree.line_break h k = led_break
           led_level (tree.seq ts) h k = led_turns ts h k
-          led_level (tree.group number ts) h k = led_group number (one_lead ts) (branches g (levels g below ts)) (led_branches ts h k)
+          led_level (tree.group number ts) h k = led_group number (one_lead ts) (branches g (levels g below ts))
+              (led_branches ts h k)
           led_level (tree.repeat body low high lazily) h k = led_repeat body low high lazily h k
           led_level (tree.one_repeat item low high lazily) h k = led_many item low high lazily
-          led_level (tree.atomic ts) h k = led_atomic (one_lead ts) (branches g (levels g below ts)) (led_branches ts h k)
+          led_level (tree.atomic ts) h k = led_atomic (one_lead ts) (branches g (levels g below ts))
+              (led_branches ts h k)
           led_level (tree.look true positive once ts) h k = λ out s at.
-              kept_look (Stays true) positive once _ s (quiet_branches _ (quiet_levels below quiet ts h k)) (at, refl) (λ u. (at, refl))
+              kept_look (Stays true) positive once _ s (quiet_branches _ (quiet_levels below quiet ts h k)) (at, refl)
+              (λ u. (at, refl))
           led_level (tree.look false positive once ts) h k = λ out s at.
-              kept_look (Stays true) positive once _ s (quiet_branches _ (quiet_levels_behind below quiet ts h k)) (at, refl) (λ u. (at, refl))
+              kept_look (Stays true) positive once _ s (quiet_branches _ (quiet_levels_behind below quiet ts h k))
+              (at, refl) (λ u. (at, refl))
           led_level (tree.condition test t second) h k =
-              led_condition test second (lead_of t) (other_lead second) (level g below t) k.0 h.0 k.1 (led_level t h.1 k.2) (led_other second h.2 k.3)
+              led_condition test second (lead_of t) (other_lead second) (level g below t) k.0 h.0 k.1
+              (led_level t h.1 k.2) (led_other second h.2 k.3)
           led_level (tree.call n) h k = absurd h
           led_level (tree.ref ns caseless) h k = tt
           led_level (tree.anchor kind) h k = λ out s at. kept_anchor (Stays true) kind s (λ e. (at, refl))
@@ -578,19 +646,23 @@ module _ (g : Setting) where
 
           led_turns : (ts : Row) → AreUnverbed ts → AreRegular ts → Led (turn_lead ts) (in_order (levels g below ts))
           led_turns tree.none h k = λ out s at. kept_gives (Stays true) s (at, refl)
-          led_turns (tree.more t ts) h k = led_then (lead_of t) (turn_lead ts) (level g below t) (levels g below ts) (led_level t h.0 k.0) (led_turns ts h.1 k.1)
+          led_turns (tree.more t ts) h k = led_then (lead_of t) (turn_lead ts) (level g below t) (levels g below ts)
+              (led_level t h.0 k.0) (led_turns ts h.1 k.1)
 
-          led_branches : (ts : Row) → AreUnverbed ts → AreRegular ts → Led (one_lead ts) (branches g (levels g below ts))
+          led_branches : (ts : Row) → AreUnverbed ts → AreRegular ts
+              → Led (one_lead ts) (branches g (levels g below ts))
           led_branches tree.none h k = λ out s at. kept_nothing (Stays false)
           led_branches (tree.more t tree.none) h k = led_only (lead_of t) (level g below t) (led_level t h.0 k.0)
           led_branches (tree.more t (tree.more u ts)) h k =
-              led_choice (lead_of t) (one_lead (tree.more u ts)) (level g below t) (level g below u ∷ levels g below ts) (led_level t h.0 k.0)
+              led_choice (lead_of t) (one_lead (tree.more u ts)) (level g below t)
+              (level g below u ∷ levels g below ts) (led_level t h.0 k.0)
               (led_choices (tree.more u ts) h.1 k.1)
 
           led_choices : (ts : Row) → AreUnverbed ts → AreRegular ts → Led (one_lead ts) (choices g (levels g below ts))
           led_choices tree.none h k = λ out s at. kept_nothing (Stays false)
           led_choices (tree.more t ts) h k =
-              led_choice (lead_of t) (one_lead ts) (level g below t) (levels g below ts) (led_level t h.0 k.0) (led_choices ts h.1 k.1)
+              led_choice (lead_of t) (one_lead ts) (level g below t) (levels g below ts) (led_level t h.0 k.0)
+              (led_choices ts h.1 k.1)
 
           led_other : (o : Other) → IsUnverbedOther o → IsRegularOther o → Led (other_lead o) (level_other g below o)
           led_other tree.no_other h k = λ out s at. kept_gives (Stays true) s (at, refl)

@@ -1,5 +1,6 @@
 -- A finished tree keeps the rules that the law on start optimisations goes by.
-use Rattle.std.proofs.Common.{◌≡◌, ℕ, zero, suc, ◌<◌, ◌≤◌, true, List, [], ◌∷◌, ◌++◌, map, length, All, Option, Some, None, get_or, subst, arith}
+use Rattle.std.proofs.Common.{◌≡◌, ℕ, zero, suc, ◌<◌, ◌≤◌, true, List, [], ◌∷◌, ◌++◌, map, length, All, Option, Some}
+use Rattle.std.proofs.Common.{None, get_or, subst, arith}
 use Rattle.std.proofs.lemmas.Bool.{false≢true}
 use Rattle.std.proofs.lemmas.List.{get_or_default}
 use Rattle.std.proofs.lemmas.List.Elements.{All-head, All-tail}
@@ -16,9 +17,11 @@ use Rattle.pat_tree.specs.Sound.{TreeRules}
 use Rattle.pat_tree.proofs.Reached.{reached_node}
 use Rattle.search_starts.specs.StartLaw.{IsDefinition, IsRegular, AreRegular, IsRegularTest, IsRegularOther}
 
-tested : (t : Nested) → is_test t ≡ true → IsRegular t → (o : Other) → IsDefinition (test_of t) o × IsRegularTest (test_of t)
+tested : (t : Nested) → is_test t ≡ true → IsRegular t → (o : Other)
+    → IsDefinition (test_of t) o × IsRegularTest (test_of t)
 tested (tree.look ahead positive once ts) e h o = (tt, h)
-tested (tree.seq (tree.more (tree.callout c) (tree.more (tree.look ahead positive once ts) tree.none))) e h o = (tt, h.1.0)
+tested (tree.seq (tree.more (tree.callout c) (tree.more (tree.look ahead positive once ts) tree.none))) e h o =
+    (tt, h.1.0)
 tested _ e h o = absurd (false≢true e)
 
 module _ (ts : List Nested) where
@@ -33,20 +36,39 @@ module _ (ts : List Nested) where
   regular_other None h = tt
   regular_other (Some k) h = All-head IsKidRegular k [] h
 
-  regular_cond : (test : Cond) (yes' : ℕ) (no' : Option ℕ) → defines test no' → All (λ k. is_test (tree_at ts k) ≡ true) (tests_of test) →
-      All IsKidRegular (tests_of test ++ yes' ∷ number_in no') → IsRegular (tree.condition (cond_of ts test) (tree_at ts yes') (other_of ts no'))
-  regular_cond (cond.AnySet groups) yes' no' d e h =
-      (tt, tt, All-head IsKidRegular yes' (number_in no') h, regular_other no' (All-tail IsKidRegular yes' (number_in no') h))
-  regular_cond cond.InCall yes' no' d e h =
-      (tt, tt, All-head IsKidRegular yes' (number_in no') h, regular_other no' (All-tail IsKidRegular yes' (number_in no') h))
-  regular_cond (cond.InCallOf groups) yes' no' d e h =
-      (tt, tt, All-head IsKidRegular yes' (number_in no') h, regular_other no' (All-tail IsKidRegular yes' (number_in no') h))
+  regular_cond : (test : Cond) (yes' : ℕ) (no' : Option ℕ) → defines test no'
+      → All (λ k. is_test (tree_at ts k) ≡ true) (tests_of test) →
+      All IsKidRegular (tests_of test ++ yes' ∷ number_in no')
+      → IsRegular (tree.condition (cond_of ts test) (tree_at ts yes') (other_of ts no'))
+  regular_cond (cond.AnySet groups) yes' no' d e h = (
+    tt,
+    tt,
+    All-head IsKidRegular yes' (number_in no') h,
+    regular_other no' (All-tail IsKidRegular yes' (number_in no') h),
+  )
+  regular_cond cond.InCall yes' no' d e h = (
+    tt,
+    tt,
+    All-head IsKidRegular yes' (number_in no') h,
+    regular_other no' (All-tail IsKidRegular yes' (number_in no') h),
+  )
+  regular_cond (cond.InCallOf groups) yes' no' d e h = (
+    tt,
+    tt,
+    All-head IsKidRegular yes' (number_in no') h,
+    regular_other no' (All-tail IsKidRegular yes' (number_in no') h),
+  )
   regular_cond cond.Never yes' None d e h = (tt, tt, All-head IsKidRegular yes' [] h, tt)
   regular_cond cond.Never yes' (Some k) d e h = absurd (cc d)
   regular_cond (cond.Assert k) yes' no' d e h =
       let later = All-tail IsKidRegular k (yes' ∷ number_in no') h in
-      let one = tested (tree_at ts k) (All-head (λ j. is_test (tree_at ts j) ≡ true) k [] e) (All-head IsKidRegular k (yes' ∷ number_in no') h) (other_of ts no') in
-      (one.0, one.1, All-head IsKidRegular yes' (number_in no') later, regular_other no' (All-tail IsKidRegular yes' (number_in no') later))
+      let one = tested (tree_at ts k) (All-head (λ j. is_test (tree_at ts j) ≡ true) k [] e)
+      (All-head IsKidRegular k (yes' ∷ number_in no') h) (other_of ts no') in (
+        one.0,
+        one.1,
+        All-head IsKidRegular yes' (number_in no') later,
+        regular_other no' (All-tail IsKidRegular yes' (number_in no') later),
+      )
 
   regular_node : (n : Node) → IsOrdered n → IsDefine n → All (λ k. is_test (tree_at ts k) ≡ true) (asserted_by n) →
       All IsKidRegular (kids_of n) → IsRegular (nest ts n)

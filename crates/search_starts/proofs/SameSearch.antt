@@ -1,23 +1,32 @@
 -- A search at one place goes the same way with start optimisations and without them.
-use Rattle.std.proofs.Common.{◌≡◌, ℕ, zero, suc, ◌+◌, ◌-◌, ◌∙◌, Bool, true, false, ◌&&◌, ◌||◌, not, List, [], ◌∷◌, take, drop, reverse, Option, Some, None, refl, ap}
+use Rattle.std.proofs.Common.{◌≡◌, ℕ, zero, suc, ◌+◌, ◌-◌, ◌∙◌, Bool, true, false, ◌&&◌, ◌||◌, not, List, [], ◌∷◌}
+use Rattle.std.proofs.Common.{take, drop, reverse, Option, Some, None, refl, ap}
 use Rattle.std.specs.Prelude.{nat_le, nat_lt, ◌==◌, length, slice_range, option_map}
 use mathlib.Core.Path.{fun_ext}
 use Rattle.pat_tree.specs.declared.nodes.Item.{Item}
 use Rattle.pat_tree.specs.declared.nodes.Item.TheVariants.{Char, AnyAll, NotNewline, Class}
 use Rattle.pat_tree.specs.declared.nodes.AnchorKind.{AnchorKind}
-use Rattle.pat_tree.specs.declared.nodes.AnchorKind.TheVariants.{Caret, Dollar, SubjectStart, SubjectEnd, EndOrNewline, StartGiven, Word, NotWord}
+use Rattle.pat_tree.specs.declared.nodes.AnchorKind.TheVariants.{Caret, Dollar, SubjectStart, SubjectEnd}
+use Rattle.pat_tree.specs.declared.nodes.AnchorKind.TheVariants.{EndOrNewline, StartGiven, Word, NotWord}
 use Rattle.pat_tree.specs.declared.nodes.Verb.{Verb}
 use Rattle.pat_tree.specs.declared.nodes.Verb.TheVariants.{Accept, Fail, Commit, Prune, Skip, Then, Mark}
 use Rattle.pat_tree.specs.Nested as tree
 use Rattle.pat_tree.specs.Nested.{Nested, Row, Test, Other, Callout}
-use Rattle.match_items.specs.Items.{one_less, is_none_left, agrees, characters, width, same_front, places_back, after_item, item_reaches, run_places, longest_run, run_reaches, after_ref, ref_reaches, holds, anchor_reaches, earliest}
+use Rattle.match_items.specs.Items.{one_less, is_none_left, agrees, characters, width, same_front, places_back}
+use Rattle.match_items.specs.Items.{after_item, item_reaches, run_places, longest_run, run_reaches, after_ref}
+use Rattle.match_items.specs.Items.{ref_reaches, holds, anchor_reaches, earliest}
 use Rattle.pat_lengths.specs.Lengths.{SomeLengths}
 use Rattle.frame_store.specs.Captures.{capture}
 use Rattle.frame_store.specs.declared.registers.Span.{Span}
-use Rattle.ordered_search.specs.Stream.{State, first_state, Ending, by_verb, skip, reached, note, state, step, Stream, Search, ends, ◌▸◌, nothing, gives, ◌or_else◌, and_then, catch, is_next_branch}
+use Rattle.ordered_search.specs.Stream.{State, first_state, Ending, by_verb, skip, reached, note, state, step}
+use Rattle.ordered_search.specs.Stream.{Stream, Search, ends, ◌▸◌, nothing, gives, ◌or_else◌, and_then, catch}
+use Rattle.ordered_search.specs.Stream.{is_next_branch}
 use Rattle.ordered_search.specs.Setting.{Setting, branch_lengths, verb_name, match_limit, held, hold, reach, reach_if}
-use Rattle.ordered_search.specs.Tests.{move_to, goes_to, run_one, run_break, run_ref, run_anchor, offers, greedy, offer_and, reluctant, lazy_run, run_many}
-use Rattle.ordered_search.specs.Parts.{Searches, in_order, choices, branches, run_group, begun_at, ends_at, one_try, tries, tries_within, run_behind, run_atomic, run_look, asserts, run_callout, same_text, skip_to, backs, run_verb, turn, run_repeat, returns, run_call}
+use Rattle.ordered_search.specs.Tests.{move_to, goes_to, run_one, run_break, run_ref, run_anchor, offers, greedy}
+use Rattle.ordered_search.specs.Tests.{offer_and, reluctant, lazy_run, run_many}
+use Rattle.ordered_search.specs.Parts.{Searches, in_order, choices, branches, run_group, begun_at, ends_at, one_try}
+use Rattle.ordered_search.specs.Parts.{tries, tries_within, run_behind, run_atomic, run_look, asserts, run_callout}
+use Rattle.ordered_search.specs.Parts.{same_text, skip_to, backs, run_verb, turn, run_repeat, returns, run_call}
 use Rattle.ordered_search.specs.Run.{level, levels, levels_behind, level_test, level_other, run}
 use Rattle.ordered_search.specs.PlaceAnswer.{Walked, answers, with_note, decision, walk, place_answer}
 use Rattle.search_starts.specs.StartLaw.{with_no_start_optimize}
@@ -120,7 +129,8 @@ module _ (b : Bool) (g : Setting) where
   same_agrees true x y = refl
   same_agrees false x y = refl
 
-  fronts : (caseless : Bool) (xs ys : List ℕ) → same_front other.scene caseless xs ys ≡ same_front g.scene caseless xs ys
+  fronts : (caseless : Bool) (xs ys : List ℕ) → same_front other.scene caseless xs ys ≡ same_front g.scene caseless xs
+      ys
   fronts caseless [] ys = refl
   fronts caseless (x ∷ xs) [] = refl
   fronts caseless (x ∷ xs) (y ∷ ys) =
@@ -177,9 +187,11 @@ module _ (b : Bool) (g : Setting) where
       (elim (holds other.scene kind s.place) [ true ↦ gives reached (at e) | false ↦ nothing ]))
       (same_earliest kind s.place s.early)
       ∙ same_reach_if _ (at early) _
-      ∙ ap (λ c. reach_if g c (at early) (elim (holds other.scene kind s.place) [ true ↦ gives reached (at early) | false ↦ nothing ]))
+      ∙ ap (λ c. reach_if g c (at early) (elim (holds other.scene kind s.place)
+      [ true ↦ gives reached (at early) | false ↦ nothing ]))
       (same_anchor_reaches kind s.place)
-      ∙ ap (λ c. reach_if g (anchor_reaches g.scene kind s.place) (at early) (elim c [ true ↦ gives reached (at early) | false ↦ nothing ]))
+      ∙ ap (λ c. reach_if g (anchor_reaches g.scene kind s.place) (at early)
+      (elim c [ true ↦ gives reached (at early) | false ↦ nothing ]))
       (same_holds kind s.place)
 
   -- Repeats of one item.
@@ -212,8 +224,10 @@ module _ (b : Bool) (g : Setting) where
   unfolding greedy
   same_greedy item low high ps s =
       same_reach_if _ s _
-      ∙ ap (λ c. reach_if g c s (offers other (reverse (drop low (s.place ∷ ps))) s)) (same_run_reaches item high s.place ps)
-      ∙ ap (λ x. reach_if g (run_reaches g.scene item high s.place ps) s x) (same_offers (reverse (drop low (s.place ∷ ps))) s)
+      ∙ ap (λ c. reach_if g c s (offers other (reverse (drop low (s.place ∷ ps))) s))
+      (same_run_reaches item high s.place ps)
+      ∙ ap (λ x. reach_if g (run_reaches g.scene item high s.place ps) s x)
+      (same_offers (reverse (drop low (s.place ∷ ps))) s)
 
   same_lazy : (item : Item) (low : ℕ) (high : Option ℕ) (ps : List ℕ) (s : State) →
       lazy_run other item low high ps s ≡ lazy_run g item low high ps s
@@ -264,7 +278,8 @@ module _ (b : Bool) (g : Setting) where
   same_tries [] f s = refl
   same_tries (p ∷ []) f s = refl
   same_tries (p ∷ q ∷ ps) f s =
-      ap (λ x. step ▸ (held g 1 s (λ t. and_then (f (begun_at p t)) (ends_at s.place)) or_else x)) (same_tries (q ∷ ps) f s)
+      ap (λ x. step ▸ (held g 1 s (λ t. and_then (f (begun_at p t)) (ends_at s.place)) or_else x))
+      (same_tries (q ∷ ps) f s)
 
   same_within : (least : ℕ) (most : Option ℕ) (f : Search) (s : State) →
       tries_within other least most f s ≡ tries_within g least most f s
@@ -275,7 +290,10 @@ module _ (b : Bool) (g : Setting) where
         | true ↦ one_try (reverse (drop least ps)) f s
         | false ↦ tries other (reverse (drop least ps)) f s
       ]) (same_back most s.place)
-      ∙ ap (λ x. elim (least == most) [ true ↦ one_try (reverse (drop least (places_back g.scene most s.place))) f s | false ↦ x ])
+      ∙ ap (λ x. elim (least == most) [
+        | true ↦ one_try (reverse (drop least (places_back g.scene most s.place))) f s
+        | false ↦ x
+      ])
       (same_tries (reverse (drop least (places_back g.scene most s.place))) f s)
 
   same_behind : (lengths : SomeLengths) (f : Search) → run_behind other lengths f ≡ run_behind g lengths f
@@ -287,7 +305,8 @@ module _ (b : Bool) (g : Setting) where
   unfolding run_atomic hold held
   same_atomic f s = refl
 
-  same_look : (positive once : Bool) (f : Search) (s : State) → run_look other positive once f s ≡ run_look g positive once f s
+  same_look : (positive once : Bool) (f : Search) (s : State)
+      → run_look other positive once f s ≡ run_look g positive once f s
   unfolding run_look hold held
   same_look true true f s = refl
   same_look true false f s = refl
@@ -346,13 +365,16 @@ module _ (b : Bool) (g : Setting) where
       same_level tree.line_break s = same_break s
       same_level (tree.seq ts) s = ap (λ fs. in_order fs s) (same_levels ts)
       same_level (tree.group number ts) s =
-          ap (λ f. run_group other number f s) (same_row _ _ (same_levels ts)) ∙ same_group number (branches g (levels g below ts)) s
+          ap (λ f. run_group other number f s) (same_row _ _ (same_levels ts))
+          ∙ same_group number (branches g (levels g below ts)) s
       same_level (tree.repeat body low high lazily) s = same_repeat body low high lazily s
       same_level (tree.one_repeat item low high lazily) s = same_many item low high lazily s
       same_level (tree.atomic ts) s =
-          ap (λ f. run_atomic other f s) (same_row _ _ (same_levels ts)) ∙ same_atomic (branches g (levels g below ts)) s
+          ap (λ f. run_atomic other f s) (same_row _ _ (same_levels ts))
+          ∙ same_atomic (branches g (levels g below ts)) s
       same_level (tree.look true positive once ts) s =
-          ap (λ f. run_look other positive once f s) (same_row _ _ (same_levels ts)) ∙ same_look positive once (branches g (levels g below ts)) s
+          ap (λ f. run_look other positive once f s) (same_row _ _ (same_levels ts))
+          ∙ same_look positive once (branches g (levels g below ts)) s
       same_level (tree.look false positive once ts) s =
           ap (λ f. run_look other positive once f s) (same_row _ _ (same_levels_behind ts))
           ∙ same_look positive once (branches g (levels_behind g below ts)) s
@@ -376,7 +398,8 @@ module _ (b : Bool) (g : Setting) where
       same_levels_behind : (ts : Row) → levels_behind other below ts ≡ levels_behind g below ts
       same_levels_behind tree.none = refl
       same_levels_behind (tree.more t ts) =
-          ap (λ (f : Search). run_behind other (branch_lengths g t) f ∷ levels_behind other below ts) (fun_ext (same_level t))
+          ap (λ (f : Search). run_behind other (branch_lengths g t) f ∷ levels_behind other below ts)
+          (fun_ext (same_level t))
           ∙ ap (λ (f : Search). f ∷ levels_behind other below ts) (same_behind (branch_lengths g t) (level g below t))
           ∙ ap (λ (fs : List Search). run_behind g (branch_lengths g t) (level g below t) ∷ fs) (same_levels_behind ts)
 

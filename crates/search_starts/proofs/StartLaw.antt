@@ -1,17 +1,22 @@
 -- A search gives the same with start optimisations as without them, where it passes no limit without them.
-use Rattle.std.proofs.Common.{◌≡◌, ℕ, zero, suc, ◌+◌, ◌≤◌, Bool, true, false, not, Option, Some, None, ◌⊎◌, inl, inr, refl, sym, ap, subst, ◌∙◌}
+use Rattle.std.proofs.Common.{◌≡◌, ℕ, zero, suc, ◌+◌, ◌≤◌, Bool, true, false, not, Option, Some, None, ◌⊎◌, inl, inr}
+use Rattle.std.proofs.Common.{refl, sym, ap, subst, ◌∙◌}
 use Rattle.std.specs.Prelude.{IfSome, slice_index}
 use Rattle.std.proofs.lemmas.Bool.{true≢false}
 use Rattle.pat_lengths.specs.Nodes.{has_accept}
 use Rattle.ordered_search.specs.pat_check.Lead.{SomeLead}
 use Rattle.match_items.specs.Items.{is_end}
 use Rattle.match_items.specs.Subjects.{IsTextPlace}
-use Rattle.ordered_search.specs.Stream.{State, first_state, is_partial, too_many_units, loop, abort, cut, exhausted, by_verb, by_halt, reached, accepted, note, state, step, Stream, ends, ◌▸◌}
+use Rattle.ordered_search.specs.Stream.{State, first_state, is_partial, too_many_units, loop, abort, cut, exhausted}
+use Rattle.ordered_search.specs.Stream.{by_verb, by_halt, reached, accepted, note, state, step, Stream, ends, ◌▸◌}
 use Rattle.ordered_search.specs.Setting.{Setting, match_limit}
 use Rattle.ordered_search.specs.Run.{run}
-use Rattle.ordered_search.specs.PlaceAnswer.{outcome, Signal, Exhausted, PlaceAnswer, Matched, Failed, Partial, MatchLimit, FrameLimit, Loop, Abort, NoDepth, Walked, answers, has_hit, is_refused_as_empty, is_refused_by_end, walk, place_answer}
+use Rattle.ordered_search.specs.PlaceAnswer.{outcome, Signal, Exhausted, PlaceAnswer, Matched, Failed, Partial}
+use Rattle.ordered_search.specs.PlaceAnswer.{MatchLimit, FrameLimit, Loop, Abort, NoDepth, Walked, answers, has_hit}
+use Rattle.ordered_search.specs.PlaceAnswer.{is_refused_as_empty, is_refused_by_end, walk, place_answer}
 use Rattle.ordered_search.specs.Places.{within, next_place, place_after, last_place, is_off, is_outside, is_excluded}
-use Rattle.ordered_search.specs.MatchAnswer.{MatchAnswer, Match, NoMatch, PartialFrom, Error, Found, undecided, from_place, found_by, found_at}
+use Rattle.ordered_search.specs.MatchAnswer.{MatchAnswer, Match, NoMatch, PartialFrom, Error, Found, undecided}
+use Rattle.ordered_search.specs.MatchAnswer.{from_place, found_by, found_at}
 use Rattle.search_starts.specs.StartLaw.{with_no_start_optimize, IsUnverbedSearch, IsLimit, StartLaw}
 use Rattle.ordered_search.proofs.WalkLaw.{no_cut}
 use Rattle.ordered_search.proofs.StartPlaces.{up_to_keeps, next_stands}
@@ -30,7 +35,8 @@ FailsPlainly (Failed signal) = signal ≡ Exhausted
 FailsPlainly _ = Unit {0}
 
 module _ (g : Setting) where
-  walk_passes : (P : State → Type 0) → ((s : State) → P s → ⊥) → (n : ℕ) (x : Stream) → Kept P x → IsPassedBy (walk g n x)
+  walk_passes : (P : State → Type 0) → ((s : State) → P s → ⊥) → (n : ℕ) (x : Stream) → Kept P x
+      → IsPassedBy (walk g n x)
   unfolding walk Kept
   walk_passes P none n (ends exhausted) h = inl refl
   walk_passes P none n (ends (by_verb v)) h = absurd h
@@ -121,7 +127,8 @@ module _ (g : Setting) where
     excluded_passes : (p : ℕ) → Here p → is_excluded optimised p ≡ true → IsPassedBy (place_answer g p)
     excluded_passes p here e =
         passed_by p here (has_accept g.whole) (lead_of g search.off search.bytes search.text p (λ utf. here) g.whole)
-        (led_run g search.off search.bytes search.text p (λ utf. here) (match_limit g + 1) g.whole search.unverbed search.regular) e
+        (led_run g search.off search.bytes search.text p (λ utf. here) (match_limit g + 1) g.whole search.unverbed
+        search.regular) e
 
     -- One place after the other.
 
@@ -132,7 +139,8 @@ module _ (g : Setting) where
     limit_stays true p (Error a) h = h
     limit_stays false p (Error a) h = h
 
-    limit_told : (p : ℕ) (w : Walked) (later : Signal → Found) (a : PlaceAnswer) → IsLimit (Error a) → IsLimit (found_by p w later a).answer
+    limit_told : (p : ℕ) (w : Walked) (later : Signal → Found) (a : PlaceAnswer) → IsLimit (Error a)
+        → IsLimit (found_by p w later a).answer
     limit_told p w later (Matched o) h = absurd h
     limit_told p w later (Failed signal) h = absurd h
     limit_told p w later Partial h = absurd h
@@ -146,10 +154,13 @@ module _ (g : Setting) where
         (¬ IsLimit (other Exhausted).answer → later Exhausted ≡ other Exhausted) → (a : PlaceAnswer) → FailsPlainly a →
         ¬ IsLimit (found_by p w other a).answer → found_by p w later a ≡ found_by p w other a
     same_found p w later other same (Matched o) plainly ok = refl
-    same_found p w later other same (Failed signal) plainly ok = subst (λ k. found_by p w later (Failed k) ≡ found_by p w other (Failed k)) (sym plainly) by_later
+    same_found p w later other same (Failed signal) plainly ok =
+        subst (λ k. found_by p w later (Failed k) ≡ found_by p w other (Failed k)) (sym plainly) by_later
       where
         by_later : found_by p w later (Failed Exhausted) ≡ found_by p w other (Failed Exhausted)
-        by_later = ap (λ f. found_by p w (λ k. f) (Failed Exhausted)) (same (λ l. ok (subst (λ k. IsLimit (found_by p w other (Failed k)).answer) (sym plainly) (limit_stays (has_hit w.notes) p (other Exhausted).answer l))))
+        by_later = ap (λ f. found_by p w (λ k. f) (Failed Exhausted))
+            (same (λ l. ok (subst (λ k. IsLimit (found_by p w other (Failed k)).answer) (sym plainly)
+            (limit_stays (has_hit w.notes) p (other Exhausted).answer l))))
     same_found p w later other same Partial plainly ok = refl
     same_found p w later other same MatchLimit plainly ok = refl
     same_found p w later other same FrameLimit plainly ok = refl
@@ -177,7 +188,8 @@ module _ (g : Setting) where
         by_passed (inr (inr is)) = absurd (no_cut g p is)
 
         by_test : (c : Bool) → is_excluded optimised p ≡ c →
-            found_at p (elim c as (λ _. Walked) [ true ↦ answers (Failed Exhausted) | false ↦ w ]) later ≡ found_at p w other
+            found_at p (elim c as (λ _. Walked) [ true ↦ answers (Failed Exhausted) | false ↦ w ]) later ≡ found_at p
+            w other
         by_test true is = by_passed (excluded_passes p here is)
         by_test false is = goes_on
 
@@ -190,14 +202,16 @@ module _ (g : Setting) where
         first_of Here (λ q. q ≤ last_place g) (place_after g p Exhausted)
         (up_to_keeps Here (last_place g) (next_place g p) (next_stands g search.begun.within search.text p here))
 
-    same_from : (n : ℕ) (o : Option ℕ) → IfSome o Here → ¬ IsLimit (from_place plain n o).answer → from_place optimised n o ≡ from_place plain n o
+    same_from : (n : ℕ) (o : Option ℕ) → IfSome o Here → ¬ IsLimit (from_place plain n o).answer
+        → from_place optimised n o ≡ from_place plain n o
     unfolding from_place
     same_from zero o here ok = refl
     same_from (suc n) None here ok = refl
     same_from (suc n) (Some p) here ok =
         let later : Signal → Found = λ signal. from_place optimised n (place_after g p signal) in
         let other : Signal → Found = λ signal. from_place plain n (place_after g p signal) in
-        ap (λ w. found_at p (elim (is_excluded optimised p) as (λ _. Walked) [ true ↦ answers (Failed Exhausted) | false ↦ w ]) later) (same_place false g p)
+        ap (λ w. found_at p (elim (is_excluded optimised p) as (λ _. Walked)
+        [ true ↦ answers (Failed Exhausted) | false ↦ w ]) later) (same_place false g p)
         ∙ same_tried p here later other (same_from n (place_after g p Exhausted) (here_after p here))
         (λ l. ok (subst (λ w. IsLimit (found_at p w other).answer) (sym (same_place true g p)) l))
         (is_excluded optimised p) refl

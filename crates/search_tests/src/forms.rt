@@ -1,6 +1,6 @@
-//! What searches find with groups that keep their first way, with lookarounds and with conditional groups (pcre2pattern,
-//! "Atomic grouping and possessive quantifiers", "Assertions", "Non-atomic assertions", "Conditional groups"). The
-//! answers are those of the C library, 10.42.
+//! What searches find with groups that keep their first way, with lookarounds and with conditional groups
+//! (pcre2pattern, "Atomic grouping and possessive quantifiers", "Assertions", "Non-atomic assertions", "Conditional
+//! groups"). The answers are those of the C library, 10.42.
 use super::searching::searched;
 use frame_machine::Scratch;
 use match_drive::MatchAnswer;

@@ -1,4 +1,5 @@
-//! What searches find for alternatives that begin with single items, or are made of them (pcre2pattern, "Vertical bar").
+//! What searches find for alternatives that begin with single items, or are made of them (pcre2pattern, "Vertical
+//! bar").
 use super::searching::searched;
 use Ask::{NotEmpty, NotEmptyAtStart, Plain, ToEnd};
 use frame_machine::Scratch;
@@ -83,7 +84,8 @@ fn the_first_alternative_that_counts(rt: HostRuntime) -> Result<(), Fail> {
     Ok(())
 }
 
-/// Patterns that are one sequence, with a text that stands at the same distance from the begin of each match, and some without.
+/// Patterns that are one sequence, with a text that stands at the same distance from the begin of each match, and some
+/// without.
 const A_TEXT_BEHIND_THE_BEGIN: &[Row] = &[
     (b"..xq", b"xq axq", Plain, Some((2, 6))),
     (b"[a-f]{3}\\d us=", b"abc us=abc1 us=", Plain, Some((7, 15))),

@@ -1,5 +1,6 @@
 -- What a replacement writes for a match (pcre2api, "Creating a new string with substitutions").
-use Rattle.std.specs.Prelude.{◌≡◌, ⊤, ℕ, suc, ◌-◌, ◌==◌, Bool, List, [], ◌∷◌, ◌++◌, Option, Some, None, Result, Ok, Err, slice_range, encode_utf8, if◌then◌else◌}
+use Rattle.std.specs.Prelude.{◌≡◌, ⊤, ℕ, suc, ◌-◌, ◌==◌, Bool, List, [], ◌∷◌, ◌++◌, Option, Some, None, Result, Ok}
+use Rattle.std.specs.Prelude.{Err, slice_range, encode_utf8, if◌then◌else◌}
 use Rattle.subst_plan.specs.declared.faults.ExpandError.{ExpandError}
 use Rattle.subst_plan.specs.declared.faults.ExpandError.TheVariants as fault
 use Rattle.subst_plan.specs.declared.faults.ExpandError.TheVariants.{NoGroup, Unset}

@@ -1,5 +1,6 @@
 -- A replacement as a whole (pcre2api, "Creating a new string with substitutions").
-use Rattle.std.specs.Prelude.{ℕ, zero, suc, ◌+◌, ◌-◌, ◌<◌, ◌≤◌, ⊤, Bool, nat_lt, List, [], ◌∷◌, ◌++◌, length, take, Option, Result, Ok, Err, slice_get, slice_index, ◌≡◌, if◌then◌else◌}
+use Rattle.std.specs.Prelude.{ℕ, zero, suc, ◌+◌, ◌-◌, ◌<◌, ◌≤◌, ⊤, Bool, nat_lt, List, [], ◌∷◌, ◌++◌, length, take}
+use Rattle.std.specs.Prelude.{Option, Result, Ok, Err, slice_get, slice_index, ◌≡◌, if◌then◌else◌}
 use Rattle.token_parts.specs.Tell.{IsPart}
 use Rattle.subst_plan.specs.declared.faults.PlanError.{PlanError}
 use Rattle.subst_plan.specs.declared.faults.PlanError.TheVariants as fault
@@ -56,7 +57,8 @@ module _ (extended utf : Bool) (text : List ℕ) where
   abbrev pub pieces_from : ℕ → List Inner → ℕ → Result (List Piece) PlanError
   pieces_from zero nest at = Ok []
   pieces_from (suc n) nest at =
-      if nat_lt at (length text) then (next_piece nest at >>= λ found. nest_after found.0 nest >>= λ deeper. before (found.0 ∷ []) (pieces_from n deeper found.1))
+      if nat_lt at (length text) then (next_piece nest at >>= λ found. nest_after found.0 nest >>= λ deeper. before
+      (found.0 ∷ []) (pieces_from n deeper found.1))
       else ended nest
 
   -- the pieces of a whole text

@@ -1,7 +1,8 @@
 -- The pieces of a replacement (pcre2api, "Creating a new string with substitutions"). A place is a
 -- number of bytes from the replacement's begin. Each form is refused at its first byte, but a
 -- missing `}` where it is missing.
-use Rattle.std.specs.Prelude.{ℕ, suc, ◌+◌, ◌-◌, min, Bool, false, not, ◌&&◌, ◌||◌, ◌==◌, nat_lt, nat_le, List, [], ◌∷◌, length, drop, Option, Some, None, Result, Ok, Err, slice_get, if◌then◌else◌}
+use Rattle.std.specs.Prelude.{ℕ, suc, ◌+◌, ◌-◌, min, Bool, false, not, ◌&&◌, ◌||◌, ◌==◌, nat_lt, nat_le, List, []}
+use Rattle.std.specs.Prelude.{◌∷◌, length, drop, Option, Some, None, Result, Ok, Err, slice_get, if◌then◌else◌}
 use Rattle.std.specs.Option.{option_and_then}
 use Rattle.std.specs.Int.{is_in_range}
 use Rattle.std.specs.Char.{is_ascii_alphanumeric}
@@ -23,7 +24,8 @@ use Rattle.subst_plan.specs.declared.pieces.Case.TheVariants.{Upper, Lower}
 use Rattle.subst_plan.specs.declared.pieces.Inner.{Inner}
 use Rattle.subst_plan.specs.declared.pieces.Inner.TheVariants.{First}
 use Rattle.subst_plan.specs.declared.pieces.Piece.{Piece}
-use Rattle.subst_plan.specs.declared.pieces.Piece.TheVariants.{Text, Byte, Char, Group, Mark, Force, Default, Choice, Else, Close}
+use Rattle.subst_plan.specs.declared.pieces.Piece.TheVariants.{Text, Byte, Char, Group, Mark, Force, Default, Choice}
+use Rattle.subst_plan.specs.declared.pieces.Piece.TheVariants.{Else, Close}
 
 -- what is read and the place after it, or the fault
 abbrev pub Read : Type 0 → Type 0
@@ -86,7 +88,15 @@ code_read utf (Err fault) = Err BadEscape
 
 -- how codes are read: as in a pattern
 abbrev pub code_flags : Bool → LexFlags
-code_flags utf = record { utf = utf; extended = false; extended_more = false; quoting = false; in_class = false; newline = Lf; groups = 0 }
+code_flags utf = record {
+  utf = utf;
+  extended = false;
+  extended_more = false;
+  quoting = false;
+  in_class = false;
+  newline = Lf;
+  groups = 0;
+}
 
 -- what ends the text that is open
 abbrev pub closes : Option Inner → ℕ → Bool
@@ -107,7 +117,8 @@ quoted_len [] = 0
 quoted_len (c ∷ rest) = if begins (c ∷ rest) "\\E" 0 then 0 else suc (quoted_len rest)
 
 module _ (text : List ℕ) where
-  -- a number, with all its digits, or a name of at most 128 bytes: letters, digits and underscores as in names of groups
+  -- a number, with all its digits, or a name of at most 128 bytes: letters, digits and underscores as in names of
+  -- groups
   unfoldable pub key_at : Bool → ℕ → Read Key
   key_at utf at =
       let digits = digits_end text 10 at in

@@ -3,7 +3,8 @@
 ghost use Rattle.std.specs.Prelude.{◌≡◌, ◌+◌, ◌<◌, ◌≤◌, List, ℕ, length, IfOk, IfSome, Ok};
 ghost use Rattle.token_parts.specs.Bytes.{begins};
 ghost use Rattle.token_parts.specs.Codes.{coded};
-ghost use Rattle.subst_plan.specs.Reading.{control_of, forcing_of, character, literal_of, code_read, code_flags, quote_end, quoted, escape};
+ghost use Rattle.subst_plan.specs.Reading.{control_of, forcing_of, character, literal_of, code_read, code_flags};
+ghost use Rattle.subst_plan.specs.Reading.{quote_end, quoted, escape};
 ghost use Rattle.subst_plan.specs.Plans.{IsIn, IsAfter};
 
 use crate::faults::PlanError;

@@ -4,7 +4,9 @@ ghost use Rattle.std.specs.List.{All};
 ghost use Rattle.std.specs.Option.{option_copied};
 ghost use Rattle.subst_plan.specs.Lookups.{seen};
 ghost use Rattle.subst_plan.specs.Plans.{IsIn, IsKeyIn};
-ghost use Rattle.subst_plan.specs.Expansion.{after, set_text, group_text, group_written, default_of, choice_of, left_out_after, writing, piece_written, piece_expanded, beginning, expanded_from, rules_of, expansion, Expands, Refuses};
+ghost use Rattle.subst_plan.specs.Expansion.{after, set_text, group_text, group_written, default_of, choice_of};
+ghost use Rattle.subst_plan.specs.Expansion.{left_out_after, writing, piece_written, piece_expanded, beginning};
+ghost use Rattle.subst_plan.specs.Expansion.{expanded_from, rules_of, expansion, Expands, Refuses};
 
 use crate::faults::ExpandError;
 use crate::forcing::push_forced;

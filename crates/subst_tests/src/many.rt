@@ -1,4 +1,5 @@
-//! Patterns with many of everything. A body that says that memory lacks past a few is proved, so a test shows that it doesn't.
+//! Patterns with many of everything. A body that says that memory lacks past a few is proved, so a test shows that it
+//! doesn't.
 use pcre2_api::{Code, Found, MatchOptions, NoCallouts, Options, Scratch};
 use std::alloc::Global;
 use std::test::Fail;

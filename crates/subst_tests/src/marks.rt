@@ -1,5 +1,5 @@
-//! The marks of matches and of failures (pcre2pattern, "Recording which path was taken"; pcre2_get_mark). The answers of the
-//! C library, 10.42.
+//! The marks of matches and of failures (pcre2pattern, "Recording which path was taken"; pcre2_get_mark). The answers
+//! of the C library, 10.42.
 ghost use Rattle.std.specs.Prelude.{◌<◌, length};
 
 use crate::substitutions::cut;

@@ -105,8 +105,8 @@ fn run_files<C: Check>(rt: &HostRuntime, program: &str, check: &C) -> io::Result
     Ok(ExitCode::from(if report.is_good() { 0 } else { 1 }))
 }
 
-/// Runs the rows of the files that the program's words name. Each failure is a line of the output, `FILE:LINE: why`. The
-/// counts go to the messages. The status is 0 where there are rows and none of them failed, and else 1.
+/// Runs the rows of the files that the program's words name. Each failure is a line of the output, `FILE:LINE: why`.
+/// The counts go to the messages. The status is 0 where there are rows and none of them failed, and else 1.
 pub fn run<C: Check>(rt: &HostRuntime, program: &str, check: &C) -> ExitCode {
     match run_files(rt, program, check) {
         Ok(code) => code,

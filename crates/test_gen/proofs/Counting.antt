@@ -1,5 +1,6 @@
 -- What a line comes to, by what the library's calls say.
-use Rattle.std.proofs.Common.{◌≡◌, ◌∙◌, ℕ, ◌-◌, List, pos, Option, Some, None, Result, Ok, Err, IfOk, OnOk, refl, sym, ap}
+use Rattle.std.proofs.Common.{◌≡◌, ◌∙◌, ℕ, ◌-◌, List, pos, Option, Some, None, Result, Ok, Err, IfOk, OnOk, refl}
+use Rattle.std.proofs.Common.{sym, ap}
 use Rattle.pat_tree.specs.declared.options.MatchOptions.{MatchOptions}
 use Rattle.pat_tree.specs.Pattern.{pattern_of}
 use Rattle.ordered_search.specs.Setting.{Setting}
@@ -47,9 +48,11 @@ module _ (code : CodeParts) (matching : MatchOptions) (subject : List ℕ) (star
   pub length-found : (f : MatchParts) → IsFound searching f → Some (f.outcome.to - f.outcome.keep) ≡ length_of here
   length-found f is = sym (ap length_of (answer-found code matching subject start f is))
 
-  pub length-none : {E : Type 0} (e : MatchError) (r : Result (Option ℕ) E) → IfOk r (λ found. found ≡ None) → OnOk r (e ≡ told.Memory → ⊥) → IsMatchError searching e
+  pub length-none : {E : Type 0} (e : MatchError) (r : Result (Option ℕ) E) → IfOk r (λ found. found ≡ None)
+      → OnOk r (e ≡ told.Memory → ⊥) → IsMatchError searching e
       → IfOk r (λ found. found ≡ length_of here)
-  length-none e (Ok found) same some is = same ∙ sym (none-said e here some (answer-error code matching subject start e is))
+  length-none e (Ok found) same some is = same
+      ∙ sym (none-said e here some (answer-error code matching subject start e is))
   length-none e (Err f) same some is = tt
 
 -- All ends.
@@ -85,7 +88,8 @@ module _ (g : Setting) where
   nothing (ends.Partial from to) some is =
       sym (count-answered (meant.PartialFrom from) is.answered)
 
-  pub count-none : {E : Type 0} (e : DfaError) (r : Result ℕ E) → IfOk r (λ count. count ≡ 0) → OnOk r (e ≡ ends.Memory → ⊥) → IsDfaError g e → IfOk r (λ count. count ≡ count_in g)
+  pub count-none : {E : Type 0} (e : DfaError) (r : Result ℕ E) → IfOk r (λ count. count ≡ 0)
+      → OnOk r (e ≡ ends.Memory → ⊥) → IsDfaError g e → IfOk r (λ count. count ≡ count_in g)
   count-none e (Ok count) same some is = same ∙ nothing e some is
   count-none e (Err f) same some is = tt
 
@@ -107,7 +111,8 @@ is-refused r refused.NoGroup some h = h
 is-refused r refused.Unset some h = h
 is-refused r refused.Memory some h = absurd (some refl)
 
-pub replaced-none : {E : Type 0} (given : Result Substituted SubstError) (e : SubstError) (r : Result ℕ E) → IfOk r (λ count. count ≡ 0) → OnOk r (e ≡ refused.Memory → ⊥) → Refuses given e
+pub replaced-none : {E : Type 0} (given : Result Substituted SubstError) (e : SubstError) (r : Result ℕ E)
+    → IfOk r (λ count. count ≡ 0) → OnOk r (e ≡ refused.Memory → ⊥) → Refuses given e
     → IfOk r (λ count. count ≡ replaced_in given)
 replaced-none given e (Ok count) same some is = same ∙ sym (ap replaced_in (is-refused given e some is))
 replaced-none given e (Err f) same some is = tt

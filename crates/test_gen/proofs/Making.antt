@@ -1,5 +1,6 @@
 -- One more letter, one more line, and sums over lines.
-use Rattle.std.proofs.Common.{◌≡◌, ◌∙◌, ℕ, zero, suc, ◌+◌, ◌*◌, ◌≤◌, ◌<◌, Bool, true, false, cond, List, [], ◌∷◌, ◌++◌, refl, sym, ap, arith, add-one}
+use Rattle.std.proofs.Common.{◌≡◌, ◌∙◌, ℕ, zero, suc, ◌+◌, ◌*◌, ◌≤◌, ◌<◌, Bool, true, false, cond, List, [], ◌∷◌}
+use Rattle.std.proofs.Common.{◌++◌, refl, sym, ap, arith, add-one}
 use Rattle.std.specs.Int.{from_bool}
 use Rattle.std.specs.List.{sum_by}
 use Rattle.std.proofs.lemmas.List.Sums.{sum_by-append}
@@ -56,9 +57,14 @@ module _ (f : List ℕ → ℕ) where
     pub within : total ≤ 18446744073709551616 * n
 
   pub summed-none : (x total : ℕ) → x ≡ 1 → total ≡ 0 → IsSummed 0 x total
-  summed-none x total first nothing = record { at = first ∙ sym (behind-none 1); sum = nothing ∙ sym sum-none; within = omega arith }
+  summed-none x total first nothing = record {
+    at = first ∙ sym (behind-none 1);
+    sum = nothing ∙ sym sum-none;
+    within = omega arith;
+  }
 
-  pub summed-more : (n x total next k : ℕ) (line : List ℕ) → IsSummed n x total → line ≡ letters x 12 → next ≡ behind x 12 → k ≡ f line → k < 18446744073709551616
+  pub summed-more : (n x total next k : ℕ) (line : List ℕ) → IsSummed n x total → line ≡ letters x 12
+      → next ≡ behind x 12 → k ≡ f line → k < 18446744073709551616
       → IsSummed (n + 1) next (total + k)
   summed-more n x total next k line i is goes counted few =
       let here : k ≡ f (line_at n) = counted ∙ ap f (is ∙ ap (λ y. letters y 12) i.at) in

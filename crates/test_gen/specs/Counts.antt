@@ -1,5 +1,6 @@
 -- What patterns come to over all lines: pattern → each line's answer → numbers.
-use Rattle.std.specs.Prelude.{◌≡◌, ⊤, ℕ, ◌-◌, is_some, unwrap_or, List, [], length, Option, Some, None, Result, Ok, Err, true, false}
+use Rattle.std.specs.Prelude.{◌≡◌, ⊤, ℕ, ◌-◌, is_some, unwrap_or, List, [], length, Option, Some, None, Result, Ok}
+use Rattle.std.specs.Prelude.{Err, true, false}
 use Rattle.std.specs.List.{sum_by, count_by}
 use Rattle.std.specs.Option.{option_map}
 use Rattle.token_parts.specs.declared.fault.Fault.{Fault}

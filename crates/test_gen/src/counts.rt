@@ -4,7 +4,8 @@ ghost use Rattle.pat_tree.specs.declared.names.NameEntry.{NameEntry};
 ghost use Rattle.pcre2_errors.specs.declared.dfa_error.DfaError.TheVariants as dfa_error;
 ghost use Rattle.pcre2_errors.specs.declared.error.MatchError.TheVariants as match_error;
 ghost use Rattle.pcre2_errors.specs.declared.subst_error.SubstError.TheVariants as subst_error;
-ghost use Rattle.test_gen.specs.Counts.{pattern, names, pattern_in, IsNamed, first_length, lines_matched, characters, ends_in, all_ends, replacements_in, replacements};
+ghost use Rattle.test_gen.specs.Counts.{pattern, names, pattern_in, IsNamed, first_length, lines_matched, characters};
+ghost use Rattle.test_gen.specs.Counts.{ends_in, all_ends, replacements_in, replacements};
 
 use crate::lines::Generator;
 use pcre_io::{Memory, NoCallouts};

@@ -1,6 +1,8 @@
 -- What is shown of callouts (pcre2test, "CALLOUTS"): the blocks of a match call → its subject, and a
 -- line for each.
-use Rattle.std.specs.Prelude.{ℕ, ◌+◌, ◌-◌, ◌==◌, ◌&&◌, not, min, max, Bool, true, false, if◌then◌else◌, nat_lt, is_none, List, [], ◌∷◌, ◌++◌, length, replicate, codes, decimal, ℤ, pos, negsuc, Option, Some, None, slice_get, slice_index, slice_range}
+use Rattle.std.specs.Prelude.{ℕ, ◌+◌, ◌-◌, ◌==◌, ◌&&◌, not, min, max, Bool, true, false, if◌then◌else◌, nat_lt}
+use Rattle.std.specs.Prelude.{is_none, List, [], ◌∷◌, ◌++◌, length, replicate, codes, decimal, ℤ, pos, negsuc}
+use Rattle.std.specs.Prelude.{Option, Some, None, slice_get, slice_index, slice_range}
 use Rattle.std.specs.Option.{option_and_then}
 use Rattle.std.specs.Str.{byte, bytes_eq}
 use Rattle.tool_io.specs.Texts.{line, text_if}

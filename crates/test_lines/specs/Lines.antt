@@ -1,10 +1,12 @@
 -- Lines about patterns, searches and refused lines (pcre2test, "DEFAULT OUTPUT FROM pcre2test" and
 -- "PATTERN MODIFIERS").
-use Rattle.std.specs.Prelude.{ℕ, Bool, true, false, nat_lt, List, [], ◌++◌, codes, decimal, ℤ, Option, Some, None, Result, Ok, Err}
+use Rattle.std.specs.Prelude.{ℕ, Bool, true, false, nat_lt, List, [], ◌++◌, codes, decimal, ℤ, Option, Some, None}
+use Rattle.std.specs.Prelude.{Result, Ok, Err}
 use Rattle.std.specs.Fmt.{signed_decimal}
 use Rattle.tool_io.specs.Texts.{line, text_if}
 use Rattle.test_modifiers.specs.declared.refusal.Refusal.{Refusal}
-use Rattle.test_modifiers.specs.declared.refusal.Refusal.TheVariants.{BadLine, UnknownModifier, BadModifierValue, BadSubject}
+use Rattle.test_modifiers.specs.declared.refusal.Refusal.TheVariants.{BadLine, UnknownModifier, BadModifierValue}
+use Rattle.test_modifiers.specs.declared.refusal.Refusal.TheVariants.{BadSubject}
 use Rattle.pcre2_api.specs.declared.code.Info.{Info}
 use Rattle.pcre2_errors.specs.declared.error.MatchError.{MatchError}
 use Rattle.pcre2_errors.specs.declared.error.MatchError.TheVariants as told

@@ -1,10 +1,15 @@
 //! What is shown of callouts (pcre2test, "CALLOUTS").
-ghost use Rattle.std.specs.Prelude.{◌≡◌, ◌<◌, ◌∷◌, ◌++◌, ℕ, List, length, codes, false, None, slice_index, slice_range, IfOk, OnOk};
+ghost use Rattle.std.specs.Prelude.{◌≡◌, ◌<◌, ◌∷◌, ◌++◌, ℕ, List, length, codes, false, None, slice_index};
+ghost use Rattle.std.specs.Prelude.{slice_range, IfOk, OnOk};
 ghost use Rattle.std.specs.Option.{option_copied};
 ghost use Rattle.tool_io.specs.Texts.{line};
 ghost use Rattle.tool_io.specs.Writes.{Writes};
 ghost use Rattle.test_lines.specs.Marks.{name_line};
-ghost use Rattle.test_lines.specs.Callouts.{low, high, low_width, rest_width, gap, item_of, second_part, string_place, closer, string_in, blanks, begin_part, caret_part, marks_part, item_part, end_part, block_line, subject_line, string_line, head_part, is_same, latest_line, name_before, number_part, place_part, latest_part, callout_text, called_text, calls_text, undoubled};
+ghost use Rattle.test_lines.specs.Callouts.{low, high, low_width, rest_width, gap, item_of, second_part};
+ghost use Rattle.test_lines.specs.Callouts.{string_place, closer, string_in, blanks, begin_part, caret_part};
+ghost use Rattle.test_lines.specs.Callouts.{marks_part, item_part, end_part, block_line, subject_line, string_line};
+ghost use Rattle.test_lines.specs.Callouts.{head_part, is_same, latest_line, name_before, number_part, place_part};
+ghost use Rattle.test_lines.specs.Callouts.{latest_part, callout_text, called_text, calls_text, undoubled};
 
 use crate::columns::columns;
 use crate::gathered::Gathered;

@@ -3,7 +3,8 @@ ghost use Rattle.std.specs.Prelude.{◌≡◌, None, slice_get};
 ghost use Rattle.std.specs.Option.{option_and_then, option_copied};
 ghost use Rattle.pat_tree.specs.Pattern.{pattern_of};
 ghost use Rattle.test_lines.specs.Lines.{nothing_text};
-ghost use Rattle.test_lines.specs.Marks.{showing, name_of, name_line, mark_line, missed_line, partial_head, partial_text};
+ghost use Rattle.test_lines.specs.Marks.{showing, name_of, name_line, mark_line, missed_line, partial_head};
+ghost use Rattle.test_lines.specs.Marks.{partial_text};
 ghost use Rattle.tool_io.specs.Writes.{Writes};
 
 use crate::shown::write_shown;

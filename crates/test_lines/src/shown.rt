@@ -1,6 +1,7 @@
 //! Texts of subjects, as they are shown.
 ghost use Rattle.std.specs.Prelude.{◌≡◌, ◌<◌, ◌%◌, true, IsTrue, IsUtf8};
-ghost use Rattle.test_lines.specs.Shown.{is_plain, hex_digit, code_of, char_code_of, shown_byte, shown_bytes, shown_char, shown_chars, shown, number_before};
+ghost use Rattle.test_lines.specs.Shown.{is_plain, hex_digit, code_of, char_code_of, shown_byte, shown_bytes};
+ghost use Rattle.test_lines.specs.Shown.{shown_char, shown_chars, shown, number_before};
 ghost use Rattle.tool_io.specs.Writes.{Writes};
 
 use itoa::Buffer;

@@ -12,7 +12,8 @@ use Rattle.test_main.specs.Laws.{SoundEndWell}
 use Rattle.test_main.specs.Worked.{WorkedWords}
 
 -- whatever is asked for
-ends-well : (plan : TestPlan) (script : Script) (input : Input) → (rows Lf greatest_line input).finish ≡ At End → (text_for plan script (Some input)).status ≡ 0
+ends-well : (plan : TestPlan) (script : Script) (input : Input) → (rows Lf greatest_line input).finish ≡ At End
+    → (text_for plan script (Some input)).status ≡ 0
 ends-well plan Standard input whole = ap status_of whole
 ends-well plan (File path) input whole = ap status_of whole
 ends-well plan (Generated n) input whole = refl

@@ -1,6 +1,7 @@
 -- What the words of pcre2test ask for (pcre2test, "COMMAND LINE OPTIONS"): words → defaults and a
 -- script, or nothing where they are refused.
-use Rattle.std.specs.Prelude.{◌≡◌, ⊤, ℕ, ◌==◌, nat_le, Bool, true, false, List, [], ◌∷◌, bytes_eq, codes, Option, Some, None, Ok, Err, if◌then◌else◌}
+use Rattle.std.specs.Prelude.{◌≡◌, ⊤, ℕ, ◌==◌, nat_le, Bool, true, false, List, [], ◌∷◌, bytes_eq, codes, Option}
+use Rattle.std.specs.Prelude.{Some, None, Ok, Err, if◌then◌else◌}
 use Rattle.std.specs.Option.{option_map, option_and_then}
 use Rattle.test_modifiers.specs.declared.modifiers.Modifiers.{Modifiers}
 use Rattle.test_modifiers.specs.Modifiers.{ungiven, over}

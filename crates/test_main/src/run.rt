@@ -10,7 +10,8 @@ ghost use Rattle.tool_io.specs.Outcomes.{Runs};
 ghost use Rattle.tool_io.specs.Printed.{printed};
 ghost use Rattle.test_main.specs.Opens.{AreGiven, UnlessLacks};
 ghost use Rattle.test_main.specs.RunsBy.{RunsBy};
-ghost use Rattle.test_main.specs.ToolText.{script_text, generated_outcome, text_on, text_by, text_of, asked_by, asked_targets, file_given};
+ghost use Rattle.test_main.specs.ToolText.{script_text, generated_outcome, text_on, text_by, text_of, asked_by};
+ghost use Rattle.test_main.specs.ToolText.{asked_targets, file_given};
 
 use crate::messages::{write_banner, write_message, write_too_long};
 use crate::words::{Script, TestWords, WordsError, read_words};

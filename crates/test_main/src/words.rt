@@ -3,7 +3,8 @@ ghost use Rattle.std.specs.Prelude.{◌≡◌, map, string_bytes, Some, IfOk, If
 ghost use Rattle.std.specs.List.{list_all};
 ghost use Rattle.std.specs.Char.{is_ascii_digit};
 ghost use Rattle.test_modifiers.specs.Values.{decimal};
-ghost use Rattle.test_main.specs.Words.{Refuses, is_option, is_name, kind_of, listed, option_taken, taken, words_of, name_alone, named_script, is_generator, line_count, count_alone, ended_words};
+ghost use Rattle.test_main.specs.Words.{Refuses, is_option, is_name, kind_of, listed, option_taken, taken, words_of};
+ghost use Rattle.test_main.specs.Words.{name_alone, named_script, is_generator, line_count, count_alone, ended_words};
 
 use byte_lanes::number;
 use pcre_io::Name;

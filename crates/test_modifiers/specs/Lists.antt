@@ -1,5 +1,6 @@
 -- Lists of modifiers (pcre2test, "PATTERN MODIFIERS" and "SUBJECT MODIFIERS").
-use Rattle.std.specs.Prelude.{ℕ, ◌+◌, ◌==◌, List, [], ◌∷◌, Bool, true, false, not, ◌&&◌, Option, Some, None, Ok, take, drop, position, nat_eq, codes, if◌then◌else◌}
+use Rattle.std.specs.Prelude.{ℕ, ◌+◌, ◌==◌, List, [], ◌∷◌, Bool, true, false, not, ◌&&◌, Option, Some, None, Ok}
+use Rattle.std.specs.Prelude.{take, drop, position, nat_eq, codes, if◌then◌else◌}
 use Rattle.std.specs.List.{slice_split, starts_with}
 use Rattle.std.specs.Option.{option_map, option_and_then}
 use Rattle.test_modifiers.specs.declared.modifiers.Modifiers.{Modifiers}
@@ -74,7 +75,8 @@ is_comma c = c == 44
 -- the items in order, without the blanks before each; the first that is at fault decides
 abbrev pub items_given : Bool → List (List ℕ) → Modifiers → Reads Modifiers
 items_given pattern [] earlier = Ok earlier
-items_given pattern (text ∷ texts) earlier = item_given pattern (without_begin is_blank text) earlier >>= items_given pattern texts
+items_given pattern (text ∷ texts) earlier = item_given pattern (without_begin is_blank text) earlier >>= items_given
+    pattern texts
 
 -- the modifiers of a list, of a pattern or of a subject; blanks at its end are passed over
 unfoldable pub list_of : Bool → List ℕ → Reads Modifiers

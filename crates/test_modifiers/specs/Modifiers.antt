@@ -1,4 +1,5 @@
--- What the modifiers of a list say, and what each of them sets (pcre2test, "PATTERN MODIFIERS" and "SUBJECT MODIFIERS").
+-- What the modifiers of a list say, and what each of them sets (pcre2test, "PATTERN MODIFIERS" and "SUBJECT
+-- MODIFIERS").
 use Rattle.std.specs.Prelude.{ℕ, Bool, Some, None}
 use Rattle.std.specs.Option.{option_or}
 use Rattle.test_modifiers.specs.declared.modifiers.Modifiers.{Modifiers}

@@ -1,5 +1,7 @@
--- The modifiers' names, the lists where they belong, and the letters (pcre2test, "PATTERN MODIFIERS" and "SUBJECT MODIFIERS").
-use Rattle.std.specs.Prelude.{ℕ, Bool, true, false, List, [], ◌∷◌, Option, Some, None, codes, bytes_eq, find, if◌then◌else◌}
+-- The modifiers' names, the lists where they belong, and the letters (pcre2test, "PATTERN MODIFIERS" and "SUBJECT
+-- MODIFIERS").
+use Rattle.std.specs.Prelude.{ℕ, Bool, true, false, List, [], ◌∷◌, Option, Some, None, codes, bytes_eq, find}
+use Rattle.std.specs.Prelude.{if◌then◌else◌}
 use Rattle.std.specs.Option.{option_map, option_or}
 use Rattle.token_parts.specs.Bytes.{◌∈◌}
 use Rattle.test_modifiers.specs.declared.kinds.Flag.{Flag}

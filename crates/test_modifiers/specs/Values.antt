@@ -37,6 +37,7 @@ plain_given modifier.Replace on earlier = None
 abbrev pub value_given : Modifier → List ℕ → Modifiers → Option Modifiers
 value_given (modifier.Flag flag) value earlier = None
 value_given (modifier.Number number) value earlier = option_map (λ n. number_given number n earlier) (decimal value)
-value_given modifier.Newline value earlier = option_map (λ newline. record earlier { newline = Some newline }) (newline_in_any_case value)
+value_given modifier.Newline value earlier = option_map (λ newline. record earlier { newline = Some newline })
+    (newline_in_any_case value)
 value_given modifier.Bsr value earlier = option_map (λ bsr. record earlier { bsr = Some bsr }) (bsr_of value)
 value_given modifier.Replace value earlier = Some (record earlier { replace = Some value })

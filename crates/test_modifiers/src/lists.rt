@@ -1,8 +1,10 @@
 //! Lists of modifiers.
-ghost use Rattle.std.specs.Prelude.{◌≡◌, ◌==◌, ◌&&◌, ◌<◌, ◌≤◌, ◌∷◌, [], ◌+◌, true, false, drop, length, position, IfOk, IfErr, OnOk, IfSome, Ok, Some, None};
+ghost use Rattle.std.specs.Prelude.{◌≡◌, ◌==◌, ◌&&◌, ◌<◌, ◌≤◌, ◌∷◌, [], ◌+◌, true, false, drop, length, position};
+ghost use Rattle.std.specs.Prelude.{IfOk, IfErr, OnOk, IfSome, Ok, Some, None};
 ghost use Rattle.std.specs.List.{slice_split};
 ghost use Rattle.std.specs.Option.{option_copied};
-ghost use Rattle.test_modifiers.specs.Lists.{is_off, without_hyphen, name_of, value_of, begins_xx, letters_given, modifier_given, item_given, is_comma, list_of};
+ghost use Rattle.test_modifiers.specs.Lists.{is_off, without_hyphen, name_of, value_of, begins_xx, letters_given};
+ghost use Rattle.test_modifiers.specs.Lists.{modifier_given, item_given, is_comma, list_of};
 ghost use Rattle.test_modifiers.specs.Refusals.{Refuses};
 ghost use Rattle.test_modifiers.specs.Stopping.{Stops};
 

@@ -17,19 +17,23 @@ use Rattle.pat_build.specs.Nodes.{parsed_of}
 use Rattle.pat_tree.specs.Parts.{TreeParts}
 use Rattle.test_run.specs.Courses.{tests, names_of, course_by, pattern_course, told_of, pattern_text}
 
-module _ (entry : PatternEntry) (options : Options) (text : List ℕ) (asked : options ≡ options_of entry.modifiers) (given : text ≡ entry.pattern) where
-  compiled-so : (r : Result Pattern Fault) → compiled options text ≡ r → compiled (options_of entry.modifiers) entry.pattern ≡ r
+module _ (entry : PatternEntry) (options : Options) (text : List ℕ) (asked : options ≡ options_of entry.modifiers)
+    (given : text ≡ entry.pattern) where
+  compiled-so : (r : Result Pattern Fault) → compiled options text ≡ r
+      → compiled (options_of entry.modifiers) entry.pattern ≡ r
   compiled-so r is = sym (λ i. compiled (asked i) (given i)) ∙ is
 
   text-is : (r : Result Pattern Fault) → compiled options text ≡ r → told_of entry.modifiers r ≡ pattern_text entry
   text-is r is = sym (ap (told_of entry.modifiers) (compiled-so r is))
 
   -- it is compiled
-  pub text-told : (p : Pattern) (is_asked : Bool) → compiled options text ≡ Ok p → is_asked ≡ is_on entry.modifiers.info → text_if is_asked (info_text (info_in p)) ≡ pattern_text entry
+  pub text-told : (p : Pattern) (is_asked : Bool) → compiled options text ≡ Ok p
+      → is_asked ≡ is_on entry.modifiers.info → text_if is_asked (info_text (info_in p)) ≡ pattern_text entry
   text-told p is_asked is same = ap (λ t. text_if t (info_text (info_in p))) same ∙ text-is (Ok p) is
 
   -- it is refused
-  pub text-fault : (e : CompileError) (number : ℤ) (at : ℕ) → e ≡ Bad number at → IsCompileError (compiled options text) e → fault_line number at ≡ pattern_text entry
+  pub text-fault : (e : CompileError) (number : ℤ) (at : ℕ) → e ≡ Bad number at
+      → IsCompileError (compiled options text) e → fault_line number at ≡ pattern_text entry
   text-fault e number at named is =
       text-is (Err (record { number = number; at = at })) (subst (IsCompileError (compiled options text)) named is)
 

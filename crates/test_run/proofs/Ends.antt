@@ -1,5 +1,7 @@
 -- All ends of matches, as they are written one after another.
-use Rattle.std.proofs.Common.{◌≡◌, ◌∙◌, ℕ, zero, suc, ◌+◌, ◌-◌, ◌*◌, ◌<◌, ◌≤◌, Bool, true, false, List, [], ◌∷◌, ◌++◌, drop, length, Option, Some, None, Result, Ok, Err, refl, sym, ap, subst, inl, inr, arith, append-nil}
+use Rattle.std.proofs.Common.{◌≡◌, ◌∙◌, ℕ, zero, suc, ◌+◌, ◌-◌, ◌*◌, ◌<◌, ◌≤◌, Bool, true, false, List, [], ◌∷◌}
+use Rattle.std.proofs.Common.{◌++◌, drop, length, Option, Some, None, Result, Ok, Err, refl, sym, ap, subst, inl}
+use Rattle.std.proofs.Common.{inr, arith, append-nil}
 use Rattle.std.specs.Prelude.{◌==◌, slice_get}
 use Rattle.pcre_io.specs.Told.{Kept}
 use Rattle.pcre_io.specs.declared.traits.IoError.{IoError}
@@ -18,7 +20,8 @@ use Rattle.pcre2_errors.specs.declared.error.MatchError.{MatchError}
 use Rattle.pcre2_api.specs.Walks.{goes_on, place_behind}
 use Rattle.test_lines.proofs.Writing.{writes-first}
 use Rattle.test_run.specs.declared.dfa.Search.TheVariants as search
-use Rattle.test_run.specs.Dfa.{Told, ends, nothing, failed, told_of, unless_barred, told_at, end_line, ends_text, unmatched_text, none_text, told_text, longest, here, all_text, first_text, dfa_text}
+use Rattle.test_run.specs.Dfa.{Told, ends, nothing, failed, told_of, unless_barred, told_at, end_line, ends_text}
+use Rattle.test_run.specs.Dfa.{unmatched_text, none_text, told_text, longest, here, all_text, first_text, dfa_text}
 use Rattle.test_run.specs.DfaSearches.{IsSearch}
 
 -- The ends of a match from one on.
@@ -132,9 +135,11 @@ module _ (p : Pattern) (matching : MatchOptions) (subject : List ℕ) where
         left = subst (λ n. IsLeft (total from) (all n false false from) old old) e (left-all (total from) old);
       }
 
-  module _ (from i at : ℕ) (again is_shown : Bool) (old mid new : Kept) (on : IsAt from i at again is_shown old mid) where
+  module _ (from i at : ℕ) (again is_shown : Bool) (old mid new : Kept)
+      (on : IsAt from i at again is_shown old mid) where
     module _ (more : i < most) where
-      rest-is : (text : List ℕ) → all (suc (most - (i + 1))) is_shown again at ≡ text → all (most - i) is_shown again at ≡ text
+      rest-is : (text : List ℕ) → all (suc (most - (i + 1))) is_shown again at ≡ text
+          → all (most - i) is_shown again at ≡ text
       rest-is text e = ap (λ n. all n is_shown again at) (one-more i more) ∙ e
 
       pub at-found : (start : ℕ) (qs : List ℕ) (u : Unit {0}) → asked again at ≡ ends start qs →
@@ -143,39 +148,48 @@ module _ (p : Pattern) (matching : MatchOptions) (subject : List ℕ) where
       at-found start qs u e w =
           let later = all (most - (i + 1)) true (start == longest start qs) (longest start qs) in record {
             left = left-more (ends_text p.options.utf subject start 0 qs) later u on.left
-                (rest-is (ends_text p.options.utf subject start 0 qs ++ later) (all-ends _ is_shown again at start qs e)) w;
+                (rest-is (ends_text p.options.utf subject start 0 qs ++ later)
+                (all-ends _ is_shown again at start qs e)) w;
           }
 
       pub at-next : asked again at ≡ nothing → goes_on p matching subject again at ≡ true →
           IsAt from (i + 1) (place_behind p subject at) false is_shown old mid
       at-next e goes = record {
         left = subst (λ l. IsLeft (total from) l old mid)
-            (rest-is (all (most - (i + 1)) is_shown false (place_behind p subject at)) (all-next _ is_shown again at e goes)) on.left;
+            (rest-is (all (most - (i + 1)) is_shown false (place_behind p subject at))
+            (all-next _ is_shown again at e goes)) on.left;
       }
 
-      pub at-end : (result : Result (Unit {0}) IoError) → asked again at ≡ nothing → goes_on p matching subject again at ≡ false →
+      pub at-end : (result : Result (Unit {0}) IoError) → asked again at ≡ nothing
+          → goes_on p matching subject again at ≡ false →
           Writes (none_text is_shown) mid new result → Writes (total from) old new result
-      at-end result e goes w = left-last result on.left (rest-is (none_text is_shown) (all-none _ is_shown again at e goes)) w
+      at-end result e goes w = left-last result on.left
+          (rest-is (none_text is_shown) (all-none _ is_shown again at e goes)) w
 
-      pub at-failed : (f : DfaError) (u : Unit {0}) → asked again at ≡ failed f → Writes (unmatched_text p.options.utf subject f) mid new (Ok u) →
+      pub at-failed : (f : DfaError) (u : Unit {0}) → asked again at ≡ failed f
+          → Writes (unmatched_text p.options.utf subject f) mid new (Ok u) →
           Writes (total from) old new (Ok u)
-      at-failed f u e w = left-last (Ok u) on.left (rest-is (unmatched_text p.options.utf subject f) (all-failed _ is_shown again at f e)) w
+      at-failed f u e w = left-last (Ok u) on.left
+          (rest-is (unmatched_text p.options.utf subject f) (all-failed _ is_shown again at f e)) w
 
       pub at-refused : (fault : IoError) →
           Writes {T = Unit {0}} (told_text p.options.utf subject (asked again at)) mid new (Err fault) →
           Writes {T = Unit {0}} (total from) old new (Err fault)
       at-refused fault w = by_answer (asked again at) refl w
         where
-          by_answer : (a : Told) → asked again at ≡ a → Writes {T = Unit {0}} (told_text p.options.utf subject a) mid new (Err fault) →
+          by_answer : (a : Told) → asked again at ≡ a → Writes {T = Unit {0}} (told_text p.options.utf subject a) mid
+              new (Err fault) →
               Writes {T = Unit {0}} (total from) old new (Err fault)
           by_answer (ends start qs) e w =
               let later = all (most - (i + 1)) true (start == longest start qs) (longest start qs) in
               left-refused (ends_text p.options.utf subject start 0 qs) later fault on.left
-              (rest-is (ends_text p.options.utf subject start 0 qs ++ later) (all-ends _ is_shown again at start qs e)) w
+              (rest-is (ends_text p.options.utf subject start 0 qs ++ later)
+              (all-ends _ is_shown again at start qs e)) w
           by_answer nothing e w = left-refused [] (all (most - i) is_shown again at) fault on.left refl w
           by_answer (failed f) e w =
               left-refused (unmatched_text p.options.utf subject f) [] fault on.left
-              (rest-is (unmatched_text p.options.utf subject f) (all-failed _ is_shown again at f e) ∙ sym (append-nil (unmatched_text p.options.utf subject f))) w
+              (rest-is (unmatched_text p.options.utf subject f) (all-failed _ is_shown again at f e)
+              ∙ sym (append-nil (unmatched_text p.options.utf subject f))) w
 
     -- a search wrote nothing
     pub at-quiet : (u : Unit {0}) → Writes [] mid new (Ok u) → IsAt from i at again is_shown old new
@@ -188,11 +202,13 @@ module _ (p : Pattern) (matching : MatchOptions) (subject : List ℕ) where
         let e : most - i ≡ 0 = omega arith in
         left-last result on.left (ap (λ n. all n is_shown again at) e ∙ all-zero is_shown again at) w
 
-  pub at-as : (from i at at' : ℕ) (again again' is_shown is_shown' : Bool) (old new : Kept) → at ≡ at' → again ≡ again' → is_shown ≡ is_shown' →
+  pub at-as : (from i at at' : ℕ) (again again' is_shown is_shown' : Bool) (old new : Kept) → at ≡ at'
+      → again ≡ again' → is_shown ≡ is_shown' →
       IsAt from i at' again' is_shown' old new → IsAt from i at again is_shown old new
   at-as from i at at' again again' is_shown is_shown' old new a b c on =
       subst (λ n. IsAt from i n again is_shown old new) (sym a)
-      (subst (λ t. IsAt from i at' t is_shown old new) (sym b) (subst (λ t. IsAt from i at' again' t old new) (sym c) on))
+      (subst (λ t. IsAt from i at' t is_shown old new) (sym b)
+      (subst (λ t. IsAt from i at' again' t old new) (sym c) on))
 
   -- The first match alone.
 
@@ -214,7 +230,8 @@ module _ (p : Pattern) (matching : MatchOptions) (subject : List ℕ) where
   pub first-none : (from : ℕ) → told_at p matching subject from ≡ nothing → first from ≡ none_text false
   first-none from e = ap by_first e
 
-  pub first-failed : (from : ℕ) (f : DfaError) → told_at p matching subject from ≡ failed f → first from ≡ unmatched_text p.options.utf subject f
+  pub first-failed : (from : ℕ) (f : DfaError) → told_at p matching subject from ≡ failed f
+      → first from ≡ unmatched_text p.options.utf subject f
   first-failed from f e = ap by_first e
 
   pub first-refused : (from : ℕ) (old new : Kept) (fault : IoError) →
@@ -237,7 +254,8 @@ module _ (p : Pattern) (matching : MatchOptions) (subject : List ℕ) where
       by_fault : (o : Option MatchError) → start_fault p.options.utf subject at ≡ o →
           elim o as (λ _. Told) [
             | Some f ↦ failed (start_error_of f)
-            | None ↦ unless_barred (refusal p.tree) (told_of (length subject) (dfa_answer (setting p matching subject at) matching.dfa_shortest))
+            | None ↦ unless_barred (refusal p.tree)
+                (told_of (length subject) (dfa_answer (setting p matching subject at) matching.dfa_shortest))
           ] ≡ nothing → start_fault p.options.utf subject at ≡ None
       by_fault None is e = is
       by_fault (Some f) is e = absurd (failed-not (start_error_of f) e)

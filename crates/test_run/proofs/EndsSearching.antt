@@ -1,5 +1,6 @@
 -- What a search for all ends answers, by what the library's call says.
-use Rattle.std.proofs.Common.{◌≡◌, ◌∙◌, ℕ, Bool, List, [], length, Option, Some, None, Result, Ok, Err, IfOk, refl, sym, ap, subst, false, arith}
+use Rattle.std.proofs.Common.{◌≡◌, ◌∙◌, ℕ, Bool, List, [], length, Option, Some, None, Result, Ok, Err, IfOk, refl}
+use Rattle.std.proofs.Common.{sym, ap, subst, false, arith}
 use Rattle.pat_tree.specs.declared.options.MatchOptions.{MatchOptions}
 use Rattle.pat_tree.specs.Pattern.{pattern_of}
 use Rattle.pat_tree.specs.Parts.{tree_of}
@@ -24,7 +25,8 @@ use Rattle.pcre2_errors.specs.declared.error.MatchError.{MatchError}
 use Rattle.pcre2_errors.specs.declared.error.MatchError.TheVariants as beginning
 use Rattle.test_run.specs.declared.dfa.Search.{Search}
 use Rattle.test_run.specs.declared.dfa.Search.TheVariants as search
-use Rattle.test_run.specs.Dfa.{Told, ends, nothing, failed, told_of, unless_barred, told_at, ends_text, unmatched_text, told_text}
+use Rattle.test_run.specs.Dfa.{Told, ends, nothing, failed, told_of, unless_barred, told_at, ends_text}
+use Rattle.test_run.specs.Dfa.{unmatched_text, told_text}
 use Rattle.test_run.specs.DfaSearches.{error_text, IsSearch, LiesIn, TellsEnds, TellsError}
 use Rattle.test_lines.proofs.Writing.{writes-first, writes-equal}
 
@@ -88,7 +90,8 @@ module _ (code : CodeParts) (matching : MatchOptions) (subject : List ℕ) (star
   said-as : (a : Told) → here ≡ a → told_text code.tree.options.utf subject a ≡ said
   said-as a is = sym (ap (told_text code.tree.options.utf subject) is)
 
-  pub text-ends : (f : DfaFound) → IsDfaFound searching f → ends_text code.tree.options.utf subject f.start 0 f.ends ≡ said
+  pub text-ends : (f : DfaFound) → IsDfaFound searching f
+      → ends_text code.tree.options.utf subject f.start 0 f.ends ≡ said
   text-ends f is = said-as (ends f.start f.ends) (answered (EndsFrom f.start f.ends) is.0)
 
   told-by : (s : Search) (a : Told) → here ≡ a → IsSearch s a → IsSearch s here
@@ -100,7 +103,8 @@ module _ (code : CodeParts) (matching : MatchOptions) (subject : List ℕ) (star
   told-ends f search.Nothing is h = absurd h
   told-ends f search.Failed is h = absurd h
 
-  text-by : (e : DfaError) (r : Result Search IoError) (old new : Kept) → Says e here → IfOk r (TellsError e) → Writes (error_text code.tree.options.utf subject e) old new r → Writes said old new r
+  text-by : (e : DfaError) (r : Result Search IoError) (old new : Kept) → Says e here → IfOk r (TellsError e)
+      → Writes (error_text code.tree.options.utf subject e) old new r → Writes said old new r
   text-by told.Memory (Ok s) old new is comes w = absurd comes
   text-by told.Memory (Err f) old new is comes w = writes-first {A = Search} [] said old new f w
   text-by told.NoMatch r old new is comes w = writes-equal (said-as nothing is) w
@@ -112,7 +116,8 @@ module _ (code : CodeParts) (matching : MatchOptions) (subject : List ℕ) (star
   text-by told.TooLarge r old new is comes w = writes-equal (said-as (failed told.TooLarge) is) w
   text-by (told.Partial from to) r old new is comes w = writes-equal (said-as (failed (told.Partial from to)) is) w
 
-  pub text-error : (e : DfaError) (r : Result Search IoError) (old new : Kept) → IsDfaError searching e → IfOk r (TellsError e) → Writes (error_text code.tree.options.utf subject e) old new r → Writes said old new r
+  pub text-error : (e : DfaError) (r : Result Search IoError) (old new : Kept) → IsDfaError searching e
+      → IfOk r (TellsError e) → Writes (error_text code.tree.options.utf subject e) old new r → Writes said old new r
   text-error e r old new is comes w = text-by e r old new (says-error e is) comes w
 
   pub lies-in : (e : DfaError) → IsDfaError searching e → LiesIn (length subject) e
@@ -146,7 +151,8 @@ module _ (code : CodeParts) (matching : MatchOptions) (subject : List ℕ) (star
   told-so told.TooLarge s is same = told-failed told.TooLarge s same is
   told-so (told.Partial from to) s is same = told-failed (told.Partial from to) s same is
 
-  pub told-error : (e : DfaError) (r : Result Search IoError) → IsDfaError searching e → IfOk r (TellsError e) → IfOk r (λ s. IsSearch s here)
+  pub told-error : (e : DfaError) (r : Result Search IoError) → IsDfaError searching e → IfOk r (TellsError e)
+      → IfOk r (λ s. IsSearch s here)
   told-error e (Ok s) is comes = told-so e s (says-error e is) comes
   told-error e (Err f) is comes = tt
 
@@ -163,6 +169,7 @@ error-failed utf subject told.Cond memory none = (refl, refl)
 error-failed utf subject told.TooLarge memory none = (refl, refl)
 error-failed utf subject (told.Partial from to) memory none = (refl, refl)
 
-pub told-failure : (e : DfaError) → (e ≡ told.Memory → ⊥) → (e ≡ told.NoMatch → ⊥) → (r : Result Search IoError) → IfOk r (λ s. s ≡ search.Failed) → IfOk r (TellsError e)
+pub told-failure : (e : DfaError) → (e ≡ told.Memory → ⊥) → (e ≡ told.NoMatch → ⊥) → (r : Result Search IoError)
+    → IfOk r (λ s. s ≡ search.Failed) → IfOk r (TellsError e)
 told-failure e memory none (Ok s) same = subst (TellsError e) (sym same) (error-failed false [] e memory none).1
 told-failure e memory none (Err f) same = tt

@@ -7,7 +7,8 @@ use Rattle.pcre2_api.specs.Substituted.{Refuses}
 use Rattle.std.specs.Prelude.{Bool}
 use Rattle.test_lines.specs.Lines.{done_line, unreplaced_line, replaced_text}
 
-is-refused : {A : Type 0} (r : Result A SubstError) (e : SubstError) → (e ≡ refusal.Memory → ⊥) → Refuses r e → r ≡ Err e
+is-refused : {A : Type 0} (r : Result A SubstError) (e : SubstError) → (e ≡ refusal.Memory → ⊥) → Refuses r e
+    → r ≡ Err e
 is-refused r refusal.BadOffset some h = h
 is-refused r (refusal.BadUtf at) some h = h
 is-refused r refusal.BadUtfOffset some h = h

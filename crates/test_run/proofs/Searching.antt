@@ -1,5 +1,6 @@
 -- What a search answers, by what the library's call says.
-use Rattle.std.proofs.Common.{◌≡◌, ◌∙◌, ◌++◌, ◌≤◌, ℕ, Bool, true, false, List, [], length, Option, Some, None, Result, Ok, Err, IfOk, refl, sym, ap, subst, arith}
+use Rattle.std.proofs.Common.{◌≡◌, ◌∙◌, ◌++◌, ◌≤◌, ℕ, Bool, true, false, List, [], length, Option, Some, None}
+use Rattle.std.proofs.Common.{Result, Ok, Err, IfOk, refl, sym, ap, subst, arith}
 use Rattle.std.specs.Prelude.{if◌then◌else◌, unwrap_or}
 use Rattle.pcre_io.specs.declared.callouts.Block.{Block}
 use Rattle.pat_tree.specs.declared.options.MatchOptions.{MatchOptions}
@@ -27,11 +28,13 @@ use Rattle.test_lines.specs.Marks.{Showing, showing, match_text}
 use Rattle.test_lines.proofs.Writing.{writes-first, writes-equal}
 
 -- callouts are told after a search where they were before, and else not
-some-shown : (f : Option MatchError) (blocks : List Block) → (elim f as (λ _. Option (List Block)) [ Some e ↦ Some [] | None ↦ Some blocks ]) ≡ None → ⊥
+some-shown : (f : Option MatchError) (blocks : List Block)
+    → (elim f as (λ _. Option (List Block)) [ Some e ↦ Some [] | None ↦ Some blocks ]) ≡ None → ⊥
 some-shown None blocks h = cc
 some-shown (Some e) blocks h = cc
 
-none-shown : (f : Option MatchError) (blocks : List Block) → Some blocks ≡ (elim f as (λ _. Option (List Block)) [ Some e ↦ None | None ↦ None ]) → ⊥
+none-shown : (f : Option MatchError) (blocks : List Block)
+    → Some blocks ≡ (elim f as (λ _. Option (List Block)) [ Some e ↦ None | None ↦ None ]) → ⊥
 none-shown None blocks h = cc
 none-shown (Some e) blocks h = cc
 
@@ -74,11 +77,14 @@ module _ (code : CodeParts) (replies : Replies) (matching : MatchOptions) (subje
     abbrev calls_of : Replies → List Block → List ℕ
     calls_of r blocks = calls_text code.tree.options.utf code.tree.verb_names pattern subject r blocks
 
-    pub calls-are : (r : Replies) (blocks : List Block) → told_if r.none blocks ≡ shown_by asked (told_if replies.none []) → calls_of r blocks ≡ calls_of replies blocks_here
+    pub calls-are : (r : Replies) (blocks : List Block)
+        → told_if r.none blocks ≡ shown_by asked (told_if replies.none [])
+        → calls_of r blocks ≡ calls_of replies blocks_here
     calls-are r blocks h = calls-by r.none replies.none blocks h
 
 -- What is written of a search, and what is told of it.
-module _ (code : CodeParts) (pattern : List ℕ) (how : How) (matching : MatchOptions) (subject : List ℕ) (start : ℕ) where
+module _ (code : CodeParts) (pattern : List ℕ) (how : How) (matching : MatchOptions) (subject : List ℕ)
+    (start : ℕ) where
   abbrev p : Pattern
   p = pattern_of code.tree
 
@@ -92,7 +98,8 @@ module _ (code : CodeParts) (pattern : List ℕ) (how : How) (matching : MatchOp
   here = answered p how.replies matching subject start
 
   abbrev now_called : List ℕ
-  now_called = calls_text p.options.utf p.verb_names pattern subject how.replies (called p how.replies matching subject start)
+  now_called = calls_text p.options.utf p.verb_names pattern subject how.replies
+      (called p how.replies matching subject start)
 
   abbrev said : List ℕ
   said = search_text pattern p how subject matching start
@@ -112,60 +119,86 @@ module _ (code : CodeParts) (pattern : List ℕ) (how : How) (matching : MatchOp
   ShowsBy e r blocks = HasShown e (seen r blocks) (shown_by search_at (seen how.replies []))
 
   -- the list was empty before the search
-  pub shows-from : (first : List Block) (r : Replies) (blocks : List Block) → first ≡ [] → seen r blocks ≡ shown_by search_at (seen how.replies first) → Shows r blocks
+  pub shows-from : (first : List Block) (r : Replies) (blocks : List Block) → first ≡ []
+      → seen r blocks ≡ shown_by search_at (seen how.replies first) → Shows r blocks
   shows-from first r blocks none_yet h = subst (λ l. seen r blocks ≡ shown_by search_at (seen how.replies l)) none_yet h
 
-  pub shows-by-from : (e : MatchError) (first : List Block) (r : Replies) (blocks : List Block) → first ≡ [] → HasShown e (seen r blocks) (shown_by search_at (seen how.replies first)) → ShowsBy e r blocks
-  shows-by-from e first r blocks none_yet h = subst (λ l. HasShown e (seen r blocks) (shown_by search_at (seen how.replies l))) none_yet h
+  pub shows-by-from : (e : MatchError) (first : List Block) (r : Replies) (blocks : List Block) → first ≡ []
+      → HasShown e (seen r blocks) (shown_by search_at (seen how.replies first)) → ShowsBy e r blocks
+  shows-by-from e first r blocks none_yet h =
+      subst (λ l. HasShown e (seen r blocks) (shown_by search_at (seen how.replies l))) none_yet h
 
-  pub text-found : (f : MatchParts) (r : Replies) (blocks : List Block) → IsFound search_at f → f.code ≡ code → f.subject ≡ subject → Shows r blocks →
+  pub text-found : (f : MatchParts) (r : Replies) (blocks : List Block) → IsFound search_at f → f.code ≡ code
+      → f.subject ≡ subject → Shows r blocks →
       calls r blocks ++ match_text (showing (pattern_of f.code.tree) how.marks) f.subject f.outcome ≡ said
   text-found f r blocks is same_code same shows =
-      ap (λ (c : CodeParts). calls r blocks ++ match_text (showing (pattern_of c.tree) how.marks) f.subject f.outcome) same_code
+      ap (λ (c : CodeParts). calls r blocks ++ match_text (showing (pattern_of c.tree) how.marks) f.subject f.outcome)
+      same_code
       ∙ ap (λ s. calls r blocks ++ match_text show s f.outcome) same
-      ∙ ap (λ l. l ++ match_text show subject f.outcome) (calls-are code how.replies matching subject start pattern r blocks shows)
-      ∙ sym (ap (λ a. now_called ++ answer_text show subject a) (answered-found code how.replies matching subject start f is))
+      ∙ ap (λ l. l ++ match_text show subject f.outcome)
+      (calls-are code how.replies matching subject start pattern r blocks shows)
+      ∙ sym (ap (λ a. now_called ++ answer_text show subject a)
+      (answered-found code how.replies matching subject start f is))
 
-  told-found : (f : MatchParts) (s : Search) → IsFound search_at f → TellsMatch s f.outcome → IsSearch (length subject) s here
+  told-found : (f : MatchParts) (s : Search) → IsFound search_at f → TellsMatch s f.outcome
+      → IsSearch (length subject) s here
   told-found f (search.Found to is_empty) is h =
-      subst (IsSearch (length subject) (search.Found to is_empty)) (sym (answered-found code how.replies matching subject start f is)) (h.0, h.1, is.placed.within)
+      subst (IsSearch (length subject) (search.Found to is_empty))
+      (sym (answered-found code how.replies matching subject start f is)) (h.0, h.1, is.placed.within)
   told-found f (search.Nothing mark) is h = absurd h
   told-found f search.Failed is h = absurd h
 
-  pub told-of-found : (f : MatchParts) (r : Result Search IoError) → IsFound search_at f → IfOk r (λ s. TellsMatch s f.outcome) → IfOk r (λ s. IsSearch (length subject) s here)
+  pub told-of-found : (f : MatchParts) (r : Result Search IoError) → IsFound search_at f
+      → IfOk r (λ s. TellsMatch s f.outcome) → IfOk r (λ s. IsSearch (length subject) s here)
   told-of-found f (Ok s) is h = told-found f s is h
   told-of-found f (Err e) is h = tt
 
   -- an error that isn't want of memory
-  said-by : (a : Answer) (q : Replies) (blocks : List Block) (text : List ℕ) (r : Result Search IoError) (old new : Kept) → Shows q blocks → here ≡ a →
+  said-by : (a : Answer) (q : Replies) (blocks : List Block) (text : List ℕ) (r : Result Search IoError)
+      (old new : Kept) → Shows q blocks → here ≡ a →
       answer_text show subject a ≡ text → Writes (calls q blocks ++ text) old new r → Writes said old new r
   said-by a q blocks text r old new shows is same w =
       writes-equal
-      (ap (λ l. calls q blocks ++ l) (sym same) ∙ ap (λ l. l ++ answer_text show subject a) (calls-are code how.replies matching subject start pattern q blocks shows)
+      (ap (λ l. calls q blocks ++ l) (sym same) ∙ ap (λ l. l ++ answer_text show subject a)
+      (calls-are code how.replies matching subject start pattern q blocks shows)
       ∙ sym (ap (λ b. now_called ++ answer_text show subject b) is)) w
 
-  text-by : (e : MatchError) (q : Replies) (blocks : List Block) (r : Result Search IoError) (old new : Kept) → Says e here →
-      ShowsBy e q blocks → IfOk r (TellsError e) → Writes (refused_text (calls q blocks) show subject e) old new r → Writes said old new r
+  text-by : (e : MatchError) (q : Replies) (blocks : List Block) (r : Result Search IoError) (old new : Kept)
+      → Says e here →
+      ShowsBy e q blocks → IfOk r (TellsError e) → Writes (refused_text (calls q blocks) show subject e) old new r
+      → Writes said old new r
   text-by told.Memory q blocks (Ok s) old new is shows comes w = absurd comes
   text-by told.Memory q blocks (Err f) old new is shows comes w = writes-first {A = Search} [] said old new f w
   text-by (told.NoMatch mark) q blocks r old new is shows comes w = said-by none q blocks [] r old new shows is refl w
-  text-by told.BadOffset q blocks r old new is shows comes w = said-by (failed told.BadOffset) q blocks _ r old new shows is refl w
-  text-by (told.BadUtf at) q blocks r old new is shows comes w = said-by (failed (told.BadUtf at)) q blocks _ r old new shows is refl w
-  text-by told.BadUtfOffset q blocks r old new is shows comes w = said-by (failed told.BadUtfOffset) q blocks _ r old new shows is refl w
-  text-by (told.Partial from to mark) q blocks r old new is shows comes w = said-by (failed (told.Partial from to mark)) q blocks _ r old new shows is refl w
-  text-by told.MatchLimit q blocks r old new is shows comes w = said-by (failed told.MatchLimit) q blocks _ r old new shows is refl w
-  text-by told.FrameLimit q blocks r old new is shows comes w = said-by (failed told.FrameLimit) q blocks _ r old new shows is refl w
-  text-by told.RecurseLoop q blocks r old new is shows comes w = said-by (failed told.RecurseLoop) q blocks _ r old new shows is refl w
-  text-by (told.Callout n) q blocks r old new is shows comes w = said-by (failed (told.Callout n)) q blocks _ r old new shows is refl w
+  text-by told.BadOffset q blocks r old new is shows comes w =
+      said-by (failed told.BadOffset) q blocks _ r old new shows is refl w
+  text-by (told.BadUtf at) q blocks r old new is shows comes w =
+      said-by (failed (told.BadUtf at)) q blocks _ r old new shows is refl w
+  text-by told.BadUtfOffset q blocks r old new is shows comes w =
+      said-by (failed told.BadUtfOffset) q blocks _ r old new shows is refl w
+  text-by (told.Partial from to mark) q blocks r old new is shows comes w =
+      said-by (failed (told.Partial from to mark)) q blocks _ r old new shows is refl w
+  text-by told.MatchLimit q blocks r old new is shows comes w =
+      said-by (failed told.MatchLimit) q blocks _ r old new shows is refl w
+  text-by told.FrameLimit q blocks r old new is shows comes w =
+      said-by (failed told.FrameLimit) q blocks _ r old new shows is refl w
+  text-by told.RecurseLoop q blocks r old new is shows comes w =
+      said-by (failed told.RecurseLoop) q blocks _ r old new shows is refl w
+  text-by (told.Callout n) q blocks r old new is shows comes w =
+      said-by (failed (told.Callout n)) q blocks _ r old new shows is refl w
 
-  pub text-error : (e : MatchError) (q : Replies) (blocks : List Block) (r : Result Search IoError) (old new : Kept) → IsMatchError search_at e →
-      ShowsBy e q blocks → IfOk r (TellsError e) → Writes (refused_text (calls q blocks) show subject e) old new r → Writes said old new r
-  text-error e q blocks r old new is shows comes w = text-by e q blocks r old new (answered-error code how.replies matching subject start e is) shows comes w
+  pub text-error : (e : MatchError) (q : Replies) (blocks : List Block) (r : Result Search IoError) (old new : Kept)
+      → IsMatchError search_at e →
+      ShowsBy e q blocks → IfOk r (TellsError e) → Writes (refused_text (calls q blocks) show subject e) old new r
+      → Writes said old new r
+  text-error e q blocks r old new is shows comes w = text-by e q blocks r old new
+      (answered-error code how.replies matching subject start e is) shows comes w
 
   told-by : (s : Search) (a : Answer) → here ≡ a → IsSearch (length subject) s a → IsSearch (length subject) s here
   told-by s a is h = subst (IsSearch (length subject) s) (sym is) h
 
-  told-nothing : (mark : Option ℕ) (s : Search) → s ≡ search.Nothing mark → here ≡ none → IsSearch (length subject) s here
+  told-nothing : (mark : Option ℕ) (s : Search) → s ≡ search.Nothing mark → here ≡ none
+      → IsSearch (length subject) s here
   told-nothing mark s same is = told-by s none is (subst (λ t. IsSearch (length subject) t none) (sym same) tt)
 
   told-failed : (e : MatchError) (s : Search) → s ≡ search.Failed → here ≡ failed e → IsSearch (length subject) s here
@@ -183,7 +216,8 @@ module _ (code : CodeParts) (pattern : List ℕ) (how : How) (matching : MatchOp
   told-so told.RecurseLoop s is same = told-failed told.RecurseLoop s same is
   told-so (told.Callout n) s is same = told-failed (told.Callout n) s same is
 
-  pub told-error : (e : MatchError) (r : Result Search IoError) → IsMatchError search_at e → IfOk r (TellsError e) → IfOk r (λ s. IsSearch (length subject) s here)
+  pub told-error : (e : MatchError) (r : Result Search IoError) → IsMatchError search_at e → IfOk r (TellsError e)
+      → IfOk r (λ s. IsSearch (length subject) s here)
   told-error e (Ok s) is comes = told-so e s (answered-error code how.replies matching subject start e is) comes
   told-error e (Err f) is comes = tt
 
@@ -196,7 +230,8 @@ module _ (code : CodeParts) (pattern : List ℕ) (how : How) (matching : MatchOp
   missed-found f (search.Nothing mark) h = absurd h
   missed-found f search.Failed h = tt
 
-  pub missed-of-found : (f : MatchParts) (r : Result Search IoError) → IfOk r (λ s. TellsMatch s f.outcome) → IfOk r (TellsMissed last)
+  pub missed-of-found : (f : MatchParts) (r : Result Search IoError) → IfOk r (λ s. TellsMatch s f.outcome)
+      → IfOk r (TellsMissed last)
   missed-of-found f (Ok s) h = missed-found f s h
   missed-of-found f (Err e) h = tt
 
@@ -212,12 +247,15 @@ module _ (code : CodeParts) (pattern : List ℕ) (how : How) (matching : MatchOp
   missed-so told.RecurseLoop s is same = subst (TellsMissed last) (sym same) tt
   missed-so (told.Callout n) s is same = subst (TellsMissed last) (sym same) tt
 
-  pub missed-error : (e : MatchError) (r : Result Search IoError) → IsMatchError search_at e → IfOk r (TellsError e) → IfOk r (TellsMissed last)
+  pub missed-error : (e : MatchError) (r : Result Search IoError) → IsMatchError search_at e → IfOk r (TellsError e)
+      → IfOk r (TellsMissed last)
   missed-error e (Ok s) is comes = missed-so e s is comes
   missed-error e (Err f) is comes = tt
 
 -- an error that tells neither that there is no match, whole or partial, nor want of memory
-pub error-failed : (s : Showing) (subject : List ℕ) (e : MatchError) → (e ≡ told.Memory → ⊥) → ((mark : Option ℕ) → e ≡ told.NoMatch mark → ⊥) → ((from to : ℕ) (mark : Option ℕ) → e ≡ told.Partial from to mark → ⊥) →
+pub error-failed : (s : Showing) (subject : List ℕ) (e : MatchError) → (e ≡ told.Memory → ⊥)
+    → ((mark : Option ℕ) → e ≡ told.NoMatch mark → ⊥)
+    → ((from to : ℕ) (mark : Option ℕ) → e ≡ told.Partial from to mark → ⊥) →
     (failed_line e ≡ error_text s subject e) × TellsError e search.Failed
 error-failed s subject told.Memory memory missed part = absurd (memory refl)
 error-failed s subject (told.NoMatch m) memory missed part = absurd (missed m refl)
@@ -231,7 +269,8 @@ error-failed s subject told.RecurseLoop memory missed part = (refl, refl)
 error-failed s subject (told.Callout n) memory missed part = (refl, refl)
 
 -- what is written of an error that isn't want of memory, after these callouts
-pub refused-is : (calls : List ℕ) (s : Showing) (subject : List ℕ) (e : MatchError) → (e ≡ told.Memory → ⊥) → calls ++ error_text s subject e ≡ refused_text calls s subject e
+pub refused-is : (calls : List ℕ) (s : Showing) (subject : List ℕ) (e : MatchError) → (e ≡ told.Memory → ⊥)
+    → calls ++ error_text s subject e ≡ refused_text calls s subject e
 refused-is calls s subject told.Memory memory = absurd (memory refl)
 refused-is calls s subject (told.NoMatch m) memory = refl
 refused-is calls s subject told.BadOffset memory = refl
@@ -243,13 +282,15 @@ refused-is calls s subject told.FrameLimit memory = refl
 refused-is calls s subject told.RecurseLoop memory = refl
 refused-is calls s subject (told.Callout n) memory = refl
 
-pub told-failure : (e : MatchError) → TellsError e search.Failed → (r : Result Search IoError) → IfOk r (λ s. s ≡ search.Failed) → IfOk r (TellsError e)
+pub told-failure : (e : MatchError) → TellsError e search.Failed → (r : Result Search IoError)
+    → IfOk r (λ s. s ≡ search.Failed) → IfOk r (TellsError e)
 told-failure e tells (Ok s) same = subst (TellsError e) (sym same) tells
 told-failure e tells (Err f) same = tt
 
 -- a partial match lies in the subject that was searched
 pub lies-in : (g : Setting) (e : MatchError) → IsMatchError g e → LiesIn (length g.subject) e
-lies-in g (told.Partial from to mark) is = let there : from ≤ length g.subject = is.4.within in (omega (arith, there, is.5), omega (arith, is.5))
+lies-in g (told.Partial from to mark) is = let there : from ≤ length g.subject = is.4.within in
+    (omega (arith, there, is.5), omega (arith, is.5))
 lies-in g told.Memory is = tt
 lies-in g (told.NoMatch mark) is = tt
 lies-in g told.BadOffset is = tt
@@ -261,7 +302,8 @@ lies-in g told.RecurseLoop is = tt
 lies-in g (told.Callout n) is = tt
 
 -- a search that can't begin has no partial match
-pub unbegun-line : (s : Showing) (subject : List ℕ) (e : MatchError) → IsStartFault e → failed_line e ≡ unmatched_line s subject e
+pub unbegun-line : (s : Showing) (subject : List ℕ) (e : MatchError) → IsStartFault e
+    → failed_line e ≡ unmatched_line s subject e
 unbegun-line s subject told.BadOffset is = refl
 unbegun-line s subject (told.BadUtf at) is = refl
 unbegun-line s subject told.BadUtfOffset is = refl

@@ -20,7 +20,8 @@ module _ (pattern : List ℕ) (p : Pattern) (names : List NameEntry) (m : Modifi
         | None ↦ searched pattern p (how_of s.modifiers m) s.subject
       ]
 
-  pub searched-is : (subject : List ℕ) (how : How) → subject ≡ s.subject → how ≡ how_of s.modifiers m → is_dfa s.modifiers m ≡ false → replacement_of s.modifiers m ≡ None →
+  pub searched-is : (subject : List ℕ) (how : How) → subject ≡ s.subject → how ≡ how_of s.modifiers m
+      → is_dfa s.modifiers m ≡ false → replacement_of s.modifiers m ≡ None →
       searched pattern p how subject ≡ tested_text pattern p names m s
   searched-is subject how same is no_ends none =
       ap (λ l. searched pattern p how l) same ∙ ap (λ (h : How). searched pattern p h s.subject) is

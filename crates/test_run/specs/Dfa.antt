@@ -1,6 +1,7 @@
 -- The ends of a subject, by the matcher that finds them all (pcre2test, "DEFAULT OUTPUT FROM THE
 -- ALTERNATIVE MATCHING FUNCTION").
-use Rattle.std.specs.Prelude.{ℕ, zero, suc, ◌+◌, ◌*◌, ◌==◌, Bool, true, false, List, [], ◌∷◌, ◌++◌, length, codes, slice_range, Option, Some, None}
+use Rattle.std.specs.Prelude.{ℕ, zero, suc, ◌+◌, ◌*◌, ◌==◌, Bool, true, false, List, [], ◌∷◌, ◌++◌, length, codes}
+use Rattle.std.specs.Prelude.{slice_range, Option, Some, None}
 use Rattle.tool_io.specs.Texts.{line}
 use Rattle.pat_tree.specs.declared.options.MatchOptions.{MatchOptions}
 use Rattle.pat_tree.specs.Pattern.{Pattern}

@@ -1,6 +1,7 @@
 -- The matches of a subject, as they are written (pcre2test, "Finding all matches in a string"): a
 -- search → its callouts, and its match → the next search.
-use Rattle.std.specs.Prelude.{ℕ, zero, suc, ◌+◌, ◌*◌, ◌==◌, Bool, true, false, if◌then◌else◌, List, [], ◌++◌, length, Option, Some, None, unwrap_or}
+use Rattle.std.specs.Prelude.{ℕ, zero, suc, ◌+◌, ◌*◌, ◌==◌, Bool, true, false, if◌then◌else◌, List, [], ◌++◌, length}
+use Rattle.std.specs.Prelude.{Option, Some, None, unwrap_or}
 use Rattle.uni_text.specs.Sets.{word}
 use Rattle.match_items.specs.Views.{fold_in}
 use Rattle.pat_tree.specs.declared.options.MatchOptions.{MatchOptions}

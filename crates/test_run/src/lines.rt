@@ -1,6 +1,8 @@
 //! Lines about patterns and script lines.
 ghost use Rattle.std.specs.Prelude.{◌≡◌};
-ghost use Rattle.test_lines.specs.Lines.{error_line, failed_line, fault_line, fault_place, groups_line, lookbehind_line, info_text, place_text, refusal_line, refusal_place, unreplaced_line};
+ghost use Rattle.test_lines.specs.Lines.{error_line, failed_line, fault_line, fault_place, groups_line};
+ghost use Rattle.test_lines.specs.Lines.{lookbehind_line, info_text, place_text, refusal_line, refusal_place};
+ghost use Rattle.test_lines.specs.Lines.{unreplaced_line};
 ghost use Rattle.tool_io.specs.Writes.{Writes};
 
 use itoa::Buffer;

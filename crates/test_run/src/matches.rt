@@ -8,7 +8,8 @@ ghost use Rattle.test_lines.specs.Lines.{failed_line};
 ghost use Rattle.test_lines.specs.Marks.{showing, match_text, partial_text};
 ghost use Rattle.uni_text.specs.Characters.{IsChecked};
 ghost use Rattle.test_run.specs.Matches.{answered, last_met, search_text, all_text, first_text, searched};
-ghost use Rattle.test_run.specs.Searches.{error_text, refused_text, IsSearch, LiesIn, TellsError, TellsMatch, TellsMissed};
+ghost use Rattle.test_run.specs.Searches.{error_text, refused_text, IsSearch, LiesIn, TellsError, TellsMatch};
+ghost use Rattle.test_run.specs.Searches.{TellsMissed};
 ghost use Rattle.test_lines.specs.Shown.{shown_or_unset, group_line, groups_text};
 ghost use Rattle.tool_io.specs.Writes.{Writes};
 

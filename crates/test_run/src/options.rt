@@ -2,7 +2,8 @@
 ghost use Rattle.std.specs.Prelude.{◌≡◌};
 ghost use Rattle.std.specs.Option.{option_copied};
 ghost use Rattle.test_modifiers.specs.Modifiers.{over};
-ghost use Rattle.test_run.specs.Asked.{is_on, options_of, matching_of, partial_of, replies_of, is_dfa, how_of, replacement_of, subst_of};
+ghost use Rattle.test_run.specs.Asked.{is_on, options_of, matching_of, partial_of, replies_of, is_dfa, how_of};
+ghost use Rattle.test_run.specs.Asked.{replacement_of, subst_of};
 
 use pcre2_api::{Bsr, MatchOptions, Newline, Options, PartialMode, SubstOptions};
 use test_lines::gathered::Replies;

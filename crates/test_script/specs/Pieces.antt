@@ -1,5 +1,6 @@
 -- Pieces of a subject line as the code has them.
-use Rattle.std.specs.Prelude.{◌≡◌, ⊤, ℕ, suc, ◌+◌, ◌<◌, ◌≤◌, Bool, true, false, List, [], ◌∷◌, ◌++◌, length, Option, Some, None, IfSome, encode_utf8}
+use Rattle.std.specs.Prelude.{◌≡◌, ⊤, ℕ, suc, ◌+◌, ◌<◌, ◌≤◌, Bool, true, false, List, [], ◌∷◌, ◌++◌, length, Option}
+use Rattle.std.specs.Prelude.{Some, None, IfSome, encode_utf8}
 use Rattle.std.specs.List.{repeat}
 use Rattle.test_script.specs.declared.subjects.Repetition.{Repetition}
 use Rattle.test_script.specs.declared.subjects.Written.{Written}
@@ -8,7 +9,8 @@ use Rattle.test_script.specs.declared.subjects.Turn.TheVariants.{Goes, Ends, Sto
 use Rattle.token_parts.specs.Bytes.{stands}
 use Rattle.test_script.specs.declared.escapes.Piece.{Piece as Kept}
 use Rattle.test_script.specs.declared.escapes.Piece.TheVariants as kept
-use Rattle.test_script.specs.Subjects.{Piece, the_end, writes, opens, lists, wrong, before, repeated, written, unless_too_long, greatest_subject}
+use Rattle.test_script.specs.Subjects.{Piece, the_end, writes, opens, lists, wrong, before, repeated, written}
+use Rattle.test_script.specs.Subjects.{unless_too_long, greatest_subject}
 
 abbrev pub piece_seen : Kept → Piece
 piece_seen kept.End = the_end
@@ -46,14 +48,17 @@ Copies old copies new (Some to) = (more : List ℕ) × (copies ≡ Some (more, t
 Copies old None new None = ⊤
 Copies old (Some found) new None = greatest_subject < length old + length found.0
 
--- What a piece of a repetition's text writes is added, and the place after it is told, or it writes nothing. It isn't `]`.
+-- What a piece of a repetition's text writes is added, and the place after it is told, or it writes nothing. It isn't
+-- `]`.
 abbrev pub IsPlain : Bool → List ℕ → ℕ → List ℕ → List ℕ → Option ℕ → Type 0
-IsPlain utf text at old new (Some to) = (n : ℕ) → stands text 93 at ≡ false → before old (repeated utf text (suc n) at) ≡ before new (repeated utf text n to)
+IsPlain utf text at old new (Some to) = (n : ℕ) → stands text 93 at ≡ false
+    → before old (repeated utf text (suc n) at) ≡ before new (repeated utf text n to)
 IsPlain utf text at old new None = (n : ℕ) → stands text 93 at ≡ false → repeated utf text (suc n) at ≡ None
 
 -- what the piece at a place makes of the whole
 abbrev pub IsTurn : Bool → List ℕ → ℕ → List ℕ → List ℕ → Turn → Type 0
-IsTurn utf text at old new (Goes to) = (n : ℕ) → before old (written utf text (suc n) at) ≡ before new (written utf text n to)
+IsTurn utf text at old new (Goes to) = (n : ℕ) → before old (written utf text (suc n) at) ≡ before new
+    (written utf text n to)
 IsTurn utf text at old new (Ends list) = (n : ℕ) → before old (written utf text (suc n) at) ≡ Some (new, list)
 IsTurn utf text at old new Stops = (n : ℕ) → unless_too_long (before old (written utf text (suc n) at)) ≡ None
 

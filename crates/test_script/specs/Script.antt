@@ -1,5 +1,7 @@
--- Scripts of pcre2test: what each line is, after the lines before it (pcre2test, "INPUT DATA FORMAT", "COMMAND LINES", "PATTERN SYNTAX" and "SUBJECT LINE SYNTAX").
-use Rattle.std.specs.Prelude.{ℕ, ◌+◌, ◌==◌, ◌&&◌, ◌||◌, Bool, true, false, List, [], ◌∷◌, ◌++◌, length, take, drop, fold, Option, Some, None, Ok, Err, nat_eq, codes, unwrap_or, if◌then◌else◌}
+-- Scripts of pcre2test: what each line is, after the lines before it (pcre2test, "INPUT DATA FORMAT", "COMMAND LINES",
+-- "PATTERN SYNTAX" and "SUBJECT LINE SYNTAX").
+use Rattle.std.specs.Prelude.{ℕ, ◌+◌, ◌==◌, ◌&&◌, ◌||◌, Bool, true, false, List, [], ◌∷◌, ◌++◌, length, take, drop}
+use Rattle.std.specs.Prelude.{fold, Option, Some, None, Ok, Err, nat_eq, codes, unwrap_or, if◌then◌else◌}
 use Rattle.std.specs.List.{starts_with}
 use Rattle.std.specs.Option.{option_map}
 use Rattle.token_parts.specs.Bytes.{◌∈◌}
@@ -37,7 +39,8 @@ awaiting awaits script = record script { awaits = awaits }
 abbrev pub is_delimiter : ℕ → Bool
 is_delimiter c = c ∈ "/!'`-=_:;,%&@~" || c == 34
 
--- The place of the character that closes a pattern: the first that no backslash stands before. Backslashes count in pairs.
+-- The place of the character that closes a pattern: the first that no backslash stands before. Backslashes count in
+-- pairs.
 abbrev pub closing_place : ℕ → List ℕ → Option ℕ
 closing_place d [] = None
 closing_place d (c ∷ []) = if c == d then Some 0 else None
@@ -55,12 +58,15 @@ abbrev pub after_backslash : List ℕ → List ℕ
 after_backslash [] = []
 after_backslash (c ∷ rest) = if c == 92 then rest else c ∷ rest
 
--- a pattern with the modifiers of its list over the defaults; where the list is refused, the pattern's subject lines are passed over
+-- a pattern with the modifiers of its list over the defaults; where the list is refused, the pattern's subject lines
+-- are passed over
 abbrev pub pattern_with : Script → List ℕ → Reads Modifiers → Entry × Script
 pattern_with script text (Err refusal) = (entry.Refused refusal, awaiting skipped script)
 pattern_with script text (Ok own) =
-    let modifiers = over own script.defaults in
-    (entry.Pattern (record { pattern = text; modifiers = modifiers }), awaiting (subject (unwrap_or modifiers.utf false)) script)
+    let modifiers = over own script.defaults in (
+      entry.Pattern (record { pattern = text; modifiers = modifiers }),
+      awaiting (subject (unwrap_or modifiers.utf false)) script,
+    )
 
 -- a line of a pattern after its text so far: the pattern is closed there or goes on
 abbrev pub pattern_closed : Script → ℕ → List ℕ → List ℕ → Option ℕ → Entry × Script
@@ -83,7 +89,10 @@ command_of false list = SubjectDefaults list
 -- a command's list is merged over the defaults
 abbrev pub defaults_with : Script → Bool → Reads Modifiers → Entry × Script
 defaults_with script pattern (Err refusal) = (entry.Refused refusal, script)
-defaults_with script pattern (Ok list) = (entry.Command (command_of pattern list), record script { defaults = over list script.defaults })
+defaults_with script pattern (Ok list) = (
+  entry.Command (command_of pattern list),
+  record script { defaults = over list script.defaults },
+)
 
 abbrev pub defaults_line : Script → Bool → List ℕ → Entry × Script
 defaults_line script pattern list = defaults_with script pattern (list_of pattern list)
@@ -143,10 +152,12 @@ subject_entry utf line = if is_subject_note line then entry.Note else subject_re
 
 -- a blank line ends the subject lines
 abbrev pub subject_line : Script → Bool → List ℕ → Entry × Script
-subject_line script utf line = if is_nothing line then (entry.EndOfSubjects, awaiting anything script) else (subject_entry utf line, script)
+subject_line script utf line = if is_nothing line then (entry.EndOfSubjects, awaiting anything script) else
+    (subject_entry utf line, script)
 
 abbrev pub skipped_line : Script → List ℕ → Entry × Script
-skipped_line script line = if is_blank_line line then (entry.EndOfSubjects, awaiting anything script) else (entry.Note, script)
+skipped_line script line = if is_blank_line line then (entry.EndOfSubjects, awaiting anything script) else
+    (entry.Note, script)
 
 abbrev pub line_in : Script → Awaits → List ℕ → Entry × Script
 line_in script anything line = first_line script line

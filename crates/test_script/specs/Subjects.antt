@@ -1,5 +1,7 @@
--- What a subject line's text writes (pcre2test, "SUBJECT LINE SYNTAX"). A place is a number of bytes from the text's begin.
-use Rattle.std.specs.Prelude.{ℕ, zero, suc, ◌+◌, min, Bool, false, ◌&&◌, ◌||◌, ◌==◌, nat_lt, nat_le, List, [], ◌∷◌, ◌++◌, length, Option, Some, None, slice_get, slice_range, encode_utf8, if◌then◌else◌}
+-- What a subject line's text writes (pcre2test, "SUBJECT LINE SYNTAX"). A place is a number of bytes from the text's
+-- begin.
+use Rattle.std.specs.Prelude.{ℕ, zero, suc, ◌+◌, min, Bool, false, ◌&&◌, ◌||◌, ◌==◌, nat_lt, nat_le, List, [], ◌∷◌}
+use Rattle.std.specs.Prelude.{◌++◌, length, Option, Some, None, slice_get, slice_range, encode_utf8, if◌then◌else◌}
 use Rattle.std.specs.List.{repeat}
 use Rattle.std.specs.Option.{option_map, option_and_then}
 use Rattle.std.specs.Int.{is_in_range}
@@ -58,7 +60,8 @@ abbrev pub copies_of : List ℕ → Option (ℕ × ℕ) → Option (List ℕ × 
 copies_of bytes None = None
 copies_of bytes (Some count) = Some (repeat count.0 bytes, count.1)
 
--- The text of a repetition, by the piece at a place and the rest of the text after it. It has no repetition and no `\=` in it.
+-- The text of a repetition, by the piece at a place and the rest of the text after it. It has no repetition and no `\=`
+-- in it.
 abbrev pub repeated_after : Piece → (ℕ → Option (List ℕ × ℕ)) → Option (List ℕ × ℕ)
 repeated_after the_end rest = None
 repeated_after (writes bytes to) rest = before bytes (rest to)
@@ -84,7 +87,8 @@ module _ (text : List ℕ) where
   unfoldable pub times : ℕ → Option (ℕ × ℕ)
   times at =
       let to = digits_end text 10 (at + 1) in
-      if stands text 123 at && (nat_lt (at + 1) to && stands text 125 to) then option_map (λ n. (n, to + 1)) (digits 10 (at + 1) to)
+      if stands text 123 at && (nat_lt (at + 1) to && stands text 125 to) then option_map (λ n. (n, to + 1))
+      (digits 10 (at + 1) to)
       else None
 
 module _ (utf : Bool) (text : List ℕ) where
@@ -128,7 +132,8 @@ module _ (utf : Bool) (text : List ℕ) where
   unfoldable pub piece_at : ℕ → Piece
   piece_at at = elim (slice_get text at) [
     | None ↦ the_end
-    | Some c ↦ if c == 92 then elim (slice_get text (at + 1)) [ None ↦ the_end | Some d ↦ escape at d ] else writes (c ∷ []) (at + 1)
+    | Some c ↦ if c == 92 then elim (slice_get text (at + 1)) [ None ↦ the_end | Some d ↦ escape at d ] else writes
+        (c ∷ []) (at + 1)
   ]
 
   -- the text of a repetition from a place on: its bytes, and the place after `]`; at most so many pieces are read
@@ -149,7 +154,8 @@ module _ (utf : Bool) (text : List ℕ) where
   written_after (lists to) rest = Some ([], Some to)
   written_after wrong rest = None
 
-  -- What the text from a place on writes, and where its list of modifiers begins, if it has one. At most so many pieces are read.
+  -- What the text from a place on writes, and where its list of modifiers begins, if it has one. At most so many pieces
+  -- are read.
   abbrev pub written : ℕ → ℕ → Option (List ℕ × Option ℕ)
   written zero at = None
   written (suc n) at = written_after (piece_at at) (written n)

@@ -1,6 +1,7 @@
 //! The escapes of subject lines. A place is a number of bytes from the text's begin.
 ghost use Rattle.std.specs.Prelude.{◌≡◌, ◌+◌, ◌<◌, ◌≤◌, true, false, length, IfSome, MatchOption};
-ghost use Rattle.test_script.specs.Subjects.{control_of, character, coded, digits, octal, is_braced, braced, hexadecimal, braced_octal, escape, piece_at};
+ghost use Rattle.test_script.specs.Subjects.{control_of, character, coded, digits, octal, is_braced, braced};
+ghost use Rattle.test_script.specs.Subjects.{hexadecimal, braced_octal, escape, piece_at};
 ghost use Rattle.test_script.specs.Pieces.{piece_seen, place_after};
 
 use byte_lanes::number;

@@ -26,7 +26,12 @@ pub fn worked_scripts()
     ensures lines { entries_of (beginning ungiven)
         (codes "/a\\/b" ∷ codes "c/\\i" ∷ codes "# x" ∷ [] ∷ codes "# x" ∷ [])
         ≡ entry.More
-        ∷ entry.Pattern (record { pattern = codes "a\\/b" ++ 10 ∷ codes "c\\"; modifiers = record ungiven { caseless = Some true } })
+        ∷ entry.Pattern
+        (record {
+          pattern = codes "a\\/b" ++ 10 ∷ codes
+              "c\\";
+          modifiers = record ungiven { caseless = Some true };
+        })
         ∷ entry.Subject (record { subject = codes "# x"; modifiers = ungiven })
         ∷ entry.EndOfSubjects
         ∷ entry.Note ∷ [] }
@@ -40,7 +45,10 @@ pub fn worked_scripts()
         (codes "#pattern i,mark" ∷ codes "#subject -mark" ∷ codes "/a/g" ∷ [])
         ≡ entry.Command (command.PatternDefaults (record ungiven { caseless = Some true; mark = Some true }))
         ∷ entry.Command (command.SubjectDefaults (record ungiven { mark = Some false }))
-        ∷ entry.Pattern (record { pattern = codes "a"; modifiers = record ungiven { caseless = Some true; mark = Some false; global = Some true } }) ∷ [] }
+        ∷ entry.Pattern (record {
+          pattern = codes "a";
+          modifiers = record ungiven { caseless = Some true; mark = Some false; global = Some true };
+        }) ∷ [] }
 {}
 
 /// A pattern over several lines is closed where the lines joined by line feeds are.

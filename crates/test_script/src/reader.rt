@@ -61,7 +61,9 @@ fn is_command(word: &[u8], text: &[u8]) -> bool
 impl ScriptReader {
     ghost use Rattle.std.specs.Prelude.{◌≡◌, ◌++◌, [], length, drop, IfOk, OnErr, true};
     ghost use Rattle.test_modifiers.specs.Lists.{list_of};
-    ghost use Rattle.test_script.specs.Script.{beginning, closing, subject, pattern_with, pattern_line, defaults_line, command_line, begun_line, first_line, subject_line, skipped_line, line_of};
+    ghost use Rattle.test_script.specs.Script.{beginning, closing, subject, pattern_with, pattern_line};
+    ghost use Rattle.test_script.specs.Script.{defaults_line, command_line, begun_line, first_line, subject_line};
+    ghost use Rattle.test_script.specs.Script.{skipped_line, line_of};
 
     /// A reader before the first line, with these defaults. Takes no memory.
     pub fn new(alloc: Global, defaults: Modifiers) -> ScriptReader

@@ -1,5 +1,6 @@
 //! The text of subject lines: the bytes that it writes, and where its modifiers begin.
-ghost use Rattle.std.specs.Prelude.{◌≡◌, ◌+◌, ◌*◌, ◌<◌, nat_le, ◌≤◌, ◌++◌, true, false, length, encode_utf8, IfOk, IfSome, OnOk, Some, None};
+ghost use Rattle.std.specs.Prelude.{◌≡◌, ◌+◌, ◌*◌, ◌<◌, nat_le, ◌≤◌, ◌++◌, true, false, length, encode_utf8, IfOk};
+ghost use Rattle.std.specs.Prelude.{IfSome, OnOk, Some, None};
 ghost use Rattle.std.specs.List.{repeat};
 ghost use Rattle.test_script.specs.Subjects.{greatest_subject, repeated, times, copies, not_too_long, subject_text};
 ghost use Rattle.test_script.specs.Pieces.{repeated_seen, written_seen, Repeats, Copies, IsPlain, IsTurn, IsWithin};
@@ -137,8 +138,8 @@ fn push_copies(bytes: &mut Vec<u8>, copy: &[u8], count: u32) -> Result<bool, All
     Ok(true)
 }
 
-/// Adds what a repetition writes, whose text begins at a place, and answers the place after it. None where it isn't one,
-/// or writes too many bytes.
+/// Adds what a repetition writes, whose text begins at a place, and answers the place after it. None where it isn't
+/// one, or writes too many bytes.
 fn push_repetition(
     alloc: Global,
     bytes: &mut Vec<u8>,

@@ -63,7 +63,8 @@ fn without_utf_a_character_is_a_byte(rt: HostRuntime) {
     }
 }
 
-// Whether a number is a word character without UCP and with it, by the categories of Python's unicodedata at the latter.
+// Whether a number is a word character without UCP and with it, by the categories of Python's unicodedata at the
+// latter.
 const WORDS: &[(u32, bool, bool)] = &[
     (0x2F, false, false),
     (0x30, true, true),
@@ -108,7 +109,8 @@ fn word_characters_differ_with_ucp(rt: HostRuntime) {
     }
 }
 
-// Whether there is a property of this name, which one number has and another hasn't, and no number that is no character.
+// Whether there is a property of this name, which one number has and another hasn't, and no number that is no
+// character.
 fn is_property(name: &str, member: u32, other: u32) -> bool {
     let Some(p) = Prop::by_name(name.as_bytes()) else {
         return false;

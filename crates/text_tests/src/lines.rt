@@ -64,8 +64,8 @@ fn gives_all<S: Source>(
     }
 }
 
-/// A convention, the most bytes of a line, an input, how many of its bytes are read before a fault, how many a read gives at
-/// most, its lines, and the fault that comes after them.
+/// A convention, the most bytes of a line, an input, how many of its bytes are read before a fault, how many a read
+/// gives at most, its lines, and the fault that comes after them.
 type Input = (
     EndKind,
     usize,

@@ -1,7 +1,8 @@
 // Tables of the tests.
 
-// Each property by its name, with a character that has it and a number that hasn't, in hexadecimal. They are perl's answers, of Unicode 14.0, for Xwd
-// the manual's, and for the scripts of later versions the first character of the script's block in the code charts. That of ProtoCuneiform isn't here.
+// Each property by its name, with a character that has it and a number that hasn't, in hexadecimal. They are perl's
+// answers, of Unicode 14.0, for Xwd the manual's, and for the scripts of later versions the first character of the
+// script's block in the code charts. That of ProtoCuneiform isn't here.
 pub const PROPERTIES: &str = "\
 Any 0 D800
 Xan 30 3A
@@ -301,8 +302,9 @@ pub const GOOD: &[&[u8]] = &[
     b"\xEF\xBB\xBF",
 ];
 
-// Bytes that are not UTF-8, with the length of the longest part that is: continuation bytes alone, overlong forms, surrogates, characters past
-// U+10FFFF, bytes of no form, forms cut off, and forms with a byte that doesn't continue them. The places are those that Python's decoder gives.
+// Bytes that are not UTF-8, with the length of the longest part that is: continuation bytes alone, overlong forms,
+// surrogates, characters past U+10FFFF, bytes of no form, forms cut off, and forms with a byte that doesn't continue
+// them. The places are those that Python's decoder gives.
 pub const BAD: &[(&[u8], usize)] = &[
     (b"\x80", 0),
     (b"\xBF", 0),

@@ -1,5 +1,6 @@
 -- The number that digits write, with a ceiling.
-use Rattle.std.proofs.Common.{◌≡◌, ℕ, ◌+◌, ◌^◌, ◌≤◌, ◌-◌, min, List, [], ◌∷◌, length, drop, slice_range, length-take, Some, None, arith}
+use Rattle.std.proofs.Common.{◌≡◌, ℕ, ◌+◌, ◌^◌, ◌≤◌, ◌-◌, min, List, [], ◌∷◌, length, drop, slice_range, length-take}
+use Rattle.std.proofs.Common.{Some, None, arith}
 use Rattle.std.proofs.lemmas.Bool.Decides.{nat_tests}
 use Rattle.std.specs.Char.{digit_value}
 use Rattle.std.specs.Str.Parse.{digits_value}
@@ -7,7 +8,8 @@ use Rattle.byte_lanes.specs.Digits.{number_of}
 use Rattle.byte_lanes.proofs.lemmas.DigitLemmas.{is_past, is_within}
 use Rattle.token_parts.specs.Bytes.{numeral}
 
-pub numeral_within : (radix n : ℕ) (cs : List ℕ) → Some n ≡ number_of radix cs → n ≡ min (2 ^ 32) (digits_value radix cs)
+pub numeral_within : (radix n : ℕ) (cs : List ℕ) → Some n ≡ number_of radix cs
+    → n ≡ min (2 ^ 32) (digits_value radix cs)
 numeral_within radix n cs e = let (same, small) = is_within (digits_value radix cs) n e in omega arith
 
 pub numeral_past : (radix : ℕ) (cs : List ℕ) → None ≡ number_of radix cs → 2 ^ 32 ≡ min (2 ^ 32) (digits_value radix cs)

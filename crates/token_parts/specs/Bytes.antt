@@ -1,5 +1,6 @@
 -- How the bytes of a pattern are read. A place is a number of bytes from the pattern's begin.
-use Rattle.std.specs.Prelude.{ℕ, ◌+◌, ◌^◌, min, Bool, false, ◌==◌, ◌||◌, List, [], ◌∷◌, drop, Some, None, slice_get, slice_range, nat_eq, codes}
+use Rattle.std.specs.Prelude.{ℕ, ◌+◌, ◌^◌, min, Bool, false, ◌==◌, ◌||◌, List, [], ◌∷◌, drop, Some, None, slice_get}
+use Rattle.std.specs.Prelude.{slice_range, nat_eq, codes}
 use Rattle.std.specs.List.{prefix_len, starts_with}
 use Rattle.std.specs.Str.Parse.{digits_value}
 use Rattle.std.specs.Char.{is_digit, is_ascii_alphanumeric}

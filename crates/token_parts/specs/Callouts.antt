@@ -1,5 +1,6 @@
 -- Callouts (pcre2pattern, "Callouts").
-use Rattle.std.specs.Prelude.{ℕ, ◌+◌, ◌^◌, ◌||◌, ◌==◌, nat_le, nat_lt, List, [], ◌∷◌, length, drop, Option, Some, None, Ok, slice_get, if◌then◌else◌}
+use Rattle.std.specs.Prelude.{ℕ, ◌+◌, ◌^◌, ◌||◌, ◌==◌, nat_le, nat_lt, List, [], ◌∷◌, length, drop, Option, Some}
+use Rattle.std.specs.Prelude.{None, Ok, slice_get, if◌then◌else◌}
 use Rattle.std.specs.Str.{byte}
 use Rattle.std.specs.Char.{is_ascii_digit}
 use Rattle.token_parts.specs.declared.token.Token.TheVariants.{CalloutItem}

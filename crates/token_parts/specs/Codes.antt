@@ -1,5 +1,6 @@
 -- What writes a character by its code (pcre2pattern, "Non-printing characters").
-use Rattle.std.specs.Prelude.{ℕ, ◌+◌, min, bit_xor, not, ◌&&◌, ◌||◌, ◌==◌, nat_lt, List, Some, None, Ok, slice_get, if◌then◌else◌}
+use Rattle.std.specs.Prelude.{ℕ, ◌+◌, min, bit_xor, not, ◌&&◌, ◌||◌, ◌==◌, nat_lt, List, Some, None, Ok, slice_get}
+use Rattle.std.specs.Prelude.{if◌then◌else◌}
 use Rattle.std.specs.Int.{is_in_range}
 use Rattle.std.specs.Char.{to_ascii_uppercase}
 use Rattle.token_parts.specs.declared.token.LexFlags.{LexFlags}

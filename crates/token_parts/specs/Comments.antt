@@ -1,6 +1,7 @@
 -- What is passed over: comments (pcre2pattern, "Comments"), and the white space that EXTENDED ignores (pcre2api,
 -- "PCRE2_EXTENDED").
-use Rattle.std.specs.Prelude.{ℕ, zero, suc, ◌+◌, ◌-◌, Bool, not, ◌&&◌, ◌||◌, ◌==◌, nat_lt, nat_eq, List, [], ◌∷◌, drop, length, Ok, if◌then◌else◌}
+use Rattle.std.specs.Prelude.{ℕ, zero, suc, ◌+◌, ◌-◌, Bool, not, ◌&&◌, ◌||◌, ◌==◌, nat_lt, nat_eq, List, [], ◌∷◌}
+use Rattle.std.specs.Prelude.{drop, length, Ok, if◌then◌else◌}
 use Rattle.std.specs.List.{starts_with}
 use Rattle.std.specs.Int.{is_in_range}
 use Rattle.byte_lanes.specs.Newlines.{newline_len}
@@ -58,9 +59,11 @@ module _ (text : List ℕ) where
   abbrev pub begins_separator : ℕ → Bool
   begins_separator i = begins_bytes i (0xE2 ∷ 0x80 ∷ 0xA8 ∷ []) || begins_bytes i (0xE2 ∷ 0x80 ∷ 0xA9 ∷ [])
 
-  -- how many bytes the white space character past ASCII has that begins at the place, U+0085 or one of these; 0 where none does
+  -- how many bytes the white space character past ASCII has that begins at the place, U+0085 or one of these; 0 where
+  -- none does
   abbrev pub wide_len : ℕ → ℕ
-  wide_len i = if begins_bytes i (0xC2 ∷ 0x85 ∷ []) then 2 else if begins_mark i then 3 else if begins_separator i then 3 else 0
+  wide_len i = if begins_bytes i (0xC2 ∷ 0x85 ∷ []) then 2 else if begins_mark i then 3 else if begins_separator i
+      then 3 else 0
 
   module _ (flags : LexFlags) where
     -- the same of all white space, in UTF or not

@@ -1,5 +1,6 @@
 -- The tests of conditional groups (pcre2pattern, "Conditional groups").
-use Rattle.std.specs.Prelude.{ℕ, ◌+◌, ◌-◌, ◌^◌, min, Bool, ◌&&◌, ◌||◌, ◌==◌, List, length, Some, None, Ok, slice_get, slice_range, if◌then◌else◌, codes}
+use Rattle.std.specs.Prelude.{ℕ, ◌+◌, ◌-◌, ◌^◌, min, Bool, ◌&&◌, ◌||◌, ◌==◌, List, length, Some, None, Ok, slice_get}
+use Rattle.std.specs.Prelude.{slice_range, if◌then◌else◌, codes}
 use Rattle.std.specs.Str.{byte, bytes_eq}
 use Rattle.token_parts.specs.declared.token.CondText.{CondText}
 use Rattle.token_parts.specs.declared.token.CondText.TheVariants.{Group, InCall, InCallOf, Define, Lookaround}
@@ -11,8 +12,8 @@ use Rattle.token_parts.specs.Names.{name_end}
 use Rattle.token_parts.specs.Targets.{begins_number, numbered}
 
 module _ (text : List ℕ) where
-  -- A test that is a name: DEFINE, R and Rn have meanings of their own. Whether a group has such a name is the reader's to
-  -- know.
+  -- A test that is a name: DEFINE, R and Rn have meanings of their own. Whether a group has such a name is the reader's
+  -- to know.
   unfoldable pub named_test : ℕ → ℕ → CondText
   named_test from to =
       let word = slice_range text from to in

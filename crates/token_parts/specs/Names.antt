@@ -1,5 +1,6 @@
 -- Names of groups (pcre2pattern, "Named capture groups").
-use Rattle.std.specs.Prelude.{ℕ, ◌-◌, Bool, true, false, ◌==◌, ◌||◌, nat_lt, List, length, Result, Ok, Some, None, slice_get, if◌then◌else◌}
+use Rattle.std.specs.Prelude.{ℕ, ◌-◌, Bool, true, false, ◌==◌, ◌||◌, nat_lt, List, length, Result, Ok, Some, None}
+use Rattle.std.specs.Prelude.{slice_get, if◌then◌else◌}
 use Rattle.std.specs.Char.{is_ascii_digit}
 use Rattle.uni_text.specs.Sets.{alpha, digit}
 use Rattle.token_parts.specs.declared.fault.Fault.{Fault}
@@ -8,7 +9,8 @@ use Rattle.token_parts.specs.Characters.{wide}
 use Rattle.token_parts.specs.Comments.{skip}
 use Rattle.token_parts.specs.Tell.{fault, longest_name}
 
--- what names have in UTF: Unicode's letters and decimal digits, its categories L and Nd, and the underscore, which is 95
+-- what names have in UTF: Unicode's letters and decimal digits, its categories L and Nd, and the underscore, which is
+-- 95
 abbrev pub is_of_names : ℕ → Bool
 is_of_names c = alpha true c || (digit true c || c == 95)
 
@@ -30,8 +32,8 @@ module _ (text : List ℕ) where
   begins_digit false i = passes_at text is_ascii_digit i
   begins_digit true i = elim (slice_get text i) [ None ↦ false | Some c ↦ digit true (wide text c i).0 ]
 
-  -- Where the name that begins at a place ends, with this character after it: letters, digits and underscores that don't
-  -- begin with a digit, at most 128 bytes of them.
+  -- Where the name that begins at a place ends, with this character after it: letters, digits and underscores that
+  -- don't begin with a digit, at most 128 bytes of them.
   unfoldable pub name_end : Bool → ℕ → ℕ → ℕ → Result ℕ Fault
   name_end utf at from close =
       let to = word_end utf from in

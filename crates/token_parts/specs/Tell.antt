@@ -1,35 +1,38 @@
 -- What a lexer answers: a token and the place after it, or a fault.
 --
--- A token's own faults, those that its bytes alone show, are the lexer's. They are told at the token's first byte, but 114
--- and 118 at the pattern's length and 120 at 0. Of several in one token the one that stands first in this list is told.
+-- A token's own faults, those that its bytes alone show, are the lexer's. They are told at the token's first byte, but
+-- 114 and 118 at the pattern's length and 120 at 0. Of several in one token the one that stands first in this list is
+-- told.
 --
 --   backslashes        101 the pattern ends, 103 an unknown letter, 195 a form that is left out by name
---   codes              102 `\c` without a printable character; 134 a code that is too large, 135 no digits or no closing
+-- codes 102 `\c` without a printable character; 134 a code that is too large, 135 no digits or no closing
 --                      brace, 173 a surrogate
 --   properties         146 neither a letter nor a name in braces
 --   names of groups    144 empty, or a digit first, 148 too long, 142 not closed
 --   numbers of groups  161 past 65,535, 126 a relative zero, then what closes the form
 --   `\g`, `\k`         169 no number and no name, or a number that isn't closed
 --   quantifiers        105 a number past 65,535, 104 numbers out of order
---   classes            107 `\B \R \N \X \A \Z \z \G \K \g \k` in a class; 112 `[:name:]` as a whole class, 113 `[.x.]` or
+-- classes 107 `\B \R \N \X \A \Z \z \G \K \g \k` in a class; 112 `[:name:]` as a whole class, 113 `[.x.]` or
 --                      `[=x=]` in a class or as one, 130 an unknown POSIX name
 --   groups             114 the pattern ends in what begins a group, or a call by number isn't closed; 111 an unknown
 --                      character after `(?`; 118 a comment that isn't closed
---   conditions         128 a sign without digits, or a test that isn't closed; the faults of its name or number before that
---   callouts           138 a number past 255, 120 a string that ends past 4,294,967,295, 139 not closed, or no delimiter
---   verbs              160 an unknown word, or not closed, 176 a name that is too long, 166 MARK without a name
+-- conditions 128 a sign without digits, or a test that isn't closed; the faults of its name or number before that
+-- callouts 138 a number past 255, 120 a string that ends past 4,294,967,295, 139 not closed, or no delimiter verbs 160
+-- an unknown word, or not closed, 176 a name that is too long, 166 MARK without a name
 --
--- What depends on the tokens before is told by the reader: 106 (a class that isn't closed), 108 and 150 (ranges), 109 (a
--- quantifier, also one just after an opening parenthesis), 115 (which groups there are), 119, 122, 127, 128 where no
+-- What depends on the tokens before is told by the reader: 106 (a class that isn't closed), 108 and 150 (ranges), 109
+-- (a quantifier, also one just after an opening parenthesis), 115 (which groups there are), 119, 122, 127, 128 where no
 -- lookaround follows, 143, 147 (which properties there are), 154, 160 for an item that isn't at the start, 161 where a
 -- relative number leads past 65,535 or a group opens past it, 165 and 199. It makes a character of a `]` that stands
 -- first in a class, a plain group of `(` where groups don't capture, and a lazy quantifier of a greedy one where they
 -- change places.
-use Rattle.std.specs.Prelude.{◌≡◌, ℕ, ◌<◌, ◌≤◌, ℤ, pos, negsuc, Bool, true, false, ◌==◌, List, [], ◌∷◌, length, Result, Ok, Err, MatchResult, IsTrue, IfSome, ◌+◌}
+use Rattle.std.specs.Prelude.{◌≡◌, ℕ, ◌<◌, ◌≤◌, ℤ, pos, negsuc, Bool, true, false, ◌==◌, List, [], ◌∷◌, length}
+use Rattle.std.specs.Prelude.{Result, Ok, Err, MatchResult, IsTrue, IfSome, ◌+◌}
 use Rattle.std.specs.List.{list_any}
 use Rattle.token_parts.specs.declared.fault.Fault.{Fault}
 use Rattle.token_parts.specs.declared.token.Token.{Token}
-use Rattle.token_parts.specs.declared.token.Token.TheVariants.{End, Property, Reference, CallTo, Open, CondStart, CalloutItem, VerbItem, Quantifier}
+use Rattle.token_parts.specs.declared.token.Token.TheVariants.{End, Property, Reference, CallTo, Open, CondStart}
+use Rattle.token_parts.specs.declared.token.Token.TheVariants.{CalloutItem, VerbItem, Quantifier}
 use Rattle.token_parts.specs.declared.token.Target.{Target}
 use Rattle.token_parts.specs.declared.token.Target.TheVariants as targets
 use Rattle.token_parts.specs.declared.token.Target.TheVariants.{Number, Plus, Minus}
@@ -52,7 +55,8 @@ Err e >>= f = Err e
 
 abbrev pub numbers : List ℕ
 numbers =
-    101 ∷ 102 ∷ 103 ∷ 104 ∷ 105 ∷ 107 ∷ 111 ∷ 112 ∷ 113 ∷ 114 ∷ 118 ∷ 120 ∷ 126 ∷ 128 ∷ 130 ∷ 134 ∷ 135 ∷ 138 ∷ 139 ∷ 142 ∷ 144
+    101 ∷ 102 ∷ 103 ∷ 104 ∷ 105 ∷ 107 ∷ 111 ∷ 112 ∷ 113 ∷ 114 ∷ 118 ∷ 120 ∷ 126 ∷ 128 ∷ 130 ∷ 134 ∷ 135 ∷ 138 ∷ 139
+    ∷ 142 ∷ 144
     ∷ 146 ∷ 148 ∷ 160 ∷ 161 ∷ 166 ∷ 169 ∷ 173 ∷ 176 ∷ 195 ∷ []
 
 -- the number is one of a token's own faults

@@ -84,8 +84,8 @@ fn string_callout(text: &[u8], at: usize, opener: u8) -> Lexed
     }
 }
 
-/// `(?C`: a callout with a number up to 255, or with a string. Faults: 114 at the pattern's end, 138 a greater number, 139 a
-/// form that isn't closed, 120 a string that ends past 4,294,967,295.
+/// `(?C`: a callout with a number up to 255, or with a string. Faults: 114 at the pattern's end, 138 a greater number,
+/// 139 a form that isn't closed, 120 a string that ends past 4,294,967,295.
 #[tactic(auto, unfolding(crate::specs::Callouts::callout))]
 pub fn callout(text: &[u8], at: usize) -> Lexed
     requires { at + 3 ≤ length text.now }

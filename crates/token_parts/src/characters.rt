@@ -2,8 +2,8 @@
 ghost use Rattle.std.specs.Prelude.{◌≡◌, ◌<◌, ◌≤◌, length};
 ghost use Rattle.token_parts.specs.Characters.{bits, character, wide};
 
-/// The character that begins with this byte at the place, and the place after it: without UTF the byte, and in UTF a code
-/// point in the bytes of RFC 3629, section 3. There a byte that isn't followed by all that it says is taken alone.
+/// The character that begins with this byte at the place, and the place after it: without UTF the byte, and in UTF a
+/// code point in the bytes of RFC 3629, section 3. There a byte that isn't followed by all that it says is taken alone.
 pub fn character(text: &[u8], utf: bool, c: u8, at: usize) -> (u32, usize)
     requires { at < length text.now }
     ensures value { result ≡ character text.now utf c at }

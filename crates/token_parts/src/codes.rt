@@ -85,8 +85,8 @@ fn hexadecimal(text: &[u8], flags: LexFlags, at: usize) -> Lexed
     Ok((Token::Literal(code as u32), to))
 }
 
-/// `\c`, `\o` or `\x`, by its letter: a character by its code. Faults: 102 no printable character after `\c`, 134 a code past
-/// the greatest, 135 no digits or no closing brace, 173 a surrogate.
+/// `\c`, `\o` or `\x`, by its letter: a character by its code. Faults: 102 no printable character after `\c`, 134 a
+/// code past the greatest, 135 no digits or no closing brace, 173 a surrogate.
 #[tactic(auto, unfolding(crate::specs::Codes::coded))]
 pub fn coded(text: &[u8], flags: LexFlags, c: u8, at: usize) -> Lexed
     requires { at + 2 ≤ length text.now }

@@ -3,7 +3,9 @@
 ghost use Rattle.std.specs.Prelude.{◌≡◌, ◌+◌, ◌<◌, ◌≤◌, IsTrue, length};
 ghost use Rattle.token_parts.specs.Bytes.{passes_at};
 ghost use Rattle.token_parts.specs.Tell.{IsSound};
-ghost use Rattle.token_parts.specs.Comments.{newline_at, first_newline, line_end, comment, is_extended, is_white, begins_mark, begins_separator, wide_len, white_len, blank_end, blanks_end};
+ghost use Rattle.token_parts.specs.Comments.{newline_at, first_newline, line_end, comment, is_extended, is_white};
+ghost use Rattle.token_parts.specs.Comments.{begins_mark, begins_separator, wide_len, white_len, blank_end};
+ghost use Rattle.token_parts.specs.Comments.{blanks_end};
 
 use crate::bytes::{Run, begins, byte, run_end, stands};
 use crate::fault::{Fault, UNCLOSED_COMMENT};

@@ -1,7 +1,8 @@
 //! The tests of conditional groups (pcre2pattern, "Conditional groups").
 ghost use Rattle.std.specs.Prelude.{◌≡◌, ◌+◌, ◌<◌, ◌≤◌, length};
 ghost use Rattle.token_parts.specs.Tell.{longest_name, IsSound, IsTest};
-ghost use Rattle.token_parts.specs.Conditions.{named_test, test_closed, quoted_test, call_test, bare_test, numbered_test, plain_test, condition};
+ghost use Rattle.token_parts.specs.Conditions.{named_test, test_closed, quoted_test, call_test, bare_test};
+ghost use Rattle.token_parts.specs.Conditions.{numbered_test, plain_test, condition};
 
 use crate::bytes::{Run, begins, byte, numeral, run_end, stands};
 use crate::fault::{Fault, LEFT_OUT, MALFORMED_CONDITION, UNCLOSED_GROUP};
@@ -125,8 +126,8 @@ fn plain_test(text: &[u8], utf: bool, at: usize) -> Lexed
     }
 }
 
-/// `(?(`: the start of a conditional group. Faults: 114 at the pattern's end, 128 a sign without digits or a test that isn't
-/// closed, 195 a test of the version, and those of the test's name or number.
+/// `(?(`: the start of a conditional group. Faults: 114 at the pattern's end, 128 a sign without digits or a test that
+/// isn't closed, 195 a test of the version, and those of the test's name or number.
 #[tactic(auto, unfolding(crate::specs::Conditions::condition))]
 pub fn condition(text: &[u8], utf: bool, at: usize) -> Lexed
     requires { at + 3 ≤ length text.now }

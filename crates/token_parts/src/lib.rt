@@ -1,5 +1,5 @@
-//! What tokens of a pattern are, and the texts of which they are made: numbers, names, codes, references, calls, conditions,
-//! option settings, callouts and comments.
+//! What tokens of a pattern are, and the texts of which they are made: numbers, names, codes, references, calls,
+//! conditions, option settings, callouts and comments.
 #![tactic(auto)]
 
 mod bytes;

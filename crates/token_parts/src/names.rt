@@ -60,8 +60,8 @@ fn letters_end(text: &[u8], from: usize) -> usize
     i
 }
 
-/// Where the letters, digits and underscores end that begin at the place: those of ASCII, in UTF those of Unicode's categories
-/// L and Nd, and the underscore.
+/// Where the letters, digits and underscores end that begin at the place: those of ASCII, in UTF those of Unicode's
+/// categories L and Nd, and the underscore.
 pub fn word_end(text: &[u8], utf: bool, from: usize) -> usize
     requires { from ≤ length text.now }
     ensures value { result ≡ word_end text.now utf from }
@@ -88,9 +88,9 @@ fn begins_digit(text: &[u8], utf: bool, i: usize) -> bool
     }
 }
 
-/// Where the name that begins at `from` ends: 1 to 128 bytes of letters, digits and underscores, in UTF those of Unicode's
-/// categories L and Nd, with a character after it that closes it. Faults, told at `at`: 144 empty or a digit first, 148 too
-/// long, 142 not closed.
+/// Where the name that begins at `from` ends: 1 to 128 bytes of letters, digits and underscores, in UTF those of
+/// Unicode's categories L and Nd, with a character after it that closes it. Faults, told at `at`: 144 empty or a digit
+/// first, 148 too long, 142 not closed.
 #[tactic(auto, unfolding(crate::specs::Names::name_end))]
 pub fn name_end(text: &[u8], utf: bool, at: usize, from: usize, close: u8) -> Result<usize, Fault>
     requires at { at ≤ length text.now }

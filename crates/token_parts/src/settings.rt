@@ -86,8 +86,8 @@ fn setting_closed(text: &[u8], at: usize, reset: bool, set: &[u8], unset: &[u8],
     }
 }
 
-/// `(?`: an option setting, also with a caret, after which no hyphen may follow. Faults: 114 at the pattern's end, 111 where
-/// neither `)` nor `:` closes it.
+/// `(?`: an option setting, also with a caret, after which no hyphen may follow. Faults: 114 at the pattern's end, 111
+/// where neither `)` nor `:` closes it.
 #[tactic(auto, unfolding(crate::specs::Settings::setting))]
 pub fn setting(text: &[u8], at: usize) -> Lexed
     requires { at + 2 ≤ length text.now }

@@ -1,7 +1,8 @@
 //! Which group a backreference or a call is of (pcre2pattern, "Backreferences", "Groups as subroutines").
 ghost use Rattle.std.specs.Prelude.{◌≡◌, ◌+◌, ◌<◌, ◌≤◌, length, IfOk, IfErr};
 ghost use Rattle.token_parts.specs.Tell.{IsTold, IsTarget, IsSound};
-ghost use Rattle.token_parts.specs.Targets.{digits_start, begins_number, numbered, enclosed, named_reference, named_call, group_escape, name_escape, numbered_call, numbered_escape};
+ghost use Rattle.token_parts.specs.Targets.{digits_start, begins_number, numbered, enclosed, named_reference};
+ghost use Rattle.token_parts.specs.Targets.{named_call, group_escape, name_escape, numbered_call, numbered_escape};
 
 use crate::bytes::{Run, is_digit, numeral, run_end, stands};
 use crate::codes::octal;
@@ -118,8 +119,8 @@ pub fn named_call(text: &[u8], utf: bool, at: usize, from: usize) -> Lexed
     Ok((Token::CallTo(Target::Named { from, to }), to + 1))
 }
 
-/// `\g`: in braces or bare a reference, in angle brackets or quotes a call. Faults: 169 neither a number nor a name, or a
-/// number that isn't closed, 161 past the greatest number, 126 a relative zero, and those of names.
+/// `\g`: in braces or bare a reference, in angle brackets or quotes a call. Faults: 169 neither a number nor a name, or
+/// a number that isn't closed, 161 past the greatest number, 126 a relative zero, and those of names.
 #[tactic(auto, unfolding(crate::specs::Targets::group_escape))]
 pub fn group_escape(text: &[u8], utf: bool, at: usize) -> Lexed
     requires { at + 2 ≤ length text.now }
@@ -161,8 +162,8 @@ pub fn name_escape(text: &[u8], utf: bool, at: usize) -> Lexed
     }
 }
 
-/// `(?n)`, `(?+n)` or `(?-n)`: a call by a number. Faults: 161 past the greatest, 126 a relative zero, 114 at the pattern's
-/// end where it isn't closed.
+/// `(?n)`, `(?+n)` or `(?-n)`: a call by a number. Faults: 161 past the greatest, 126 a relative zero, 114 at the
+/// pattern's end where it isn't closed.
 #[tactic(auto, unfolding(crate::specs::Targets::numbered_call))]
 pub fn numbered_call(text: &[u8], at: usize) -> Lexed
     requires { at + 2 ≤ length text.now }

@@ -52,7 +52,8 @@ pub enum StartItem {
     LimitMatch(u32),
 }
 
-/// What an opening parenthesis begins (pcre2pattern, "Groups", "Assertions", "Atomic grouping and possessive quantifiers").
+/// What an opening parenthesis begins (pcre2pattern, "Groups", "Assertions", "Atomic grouping and possessive
+/// quantifiers").
 #[derive(Clone, Copy, Debug, PartialEq, Eq)]
 pub enum OpenKind {
     /// `(`

@@ -1,6 +1,7 @@
--- What the targets of a run stand for: targets, files and standard input → inputs (pcre2grep, "DESCRIPTION"). Standard input is
--- empty after its first use.
-use Rattle.std.specs.Prelude.{◌≡◌, ℕ, Bool, true, false, if◌then◌else◌, List, [], ◌∷◌, codes, bytes_eq, option_map, Option, Some, None, ⊤}
+-- What the targets of a run stand for: targets, files and standard input → inputs (pcre2grep, "DESCRIPTION"). Standard
+-- input is empty after its first use.
+use Rattle.std.specs.Prelude.{◌≡◌, ℕ, Bool, true, false, if◌then◌else◌, List, [], ◌∷◌, codes, bytes_eq, option_map}
+use Rattle.std.specs.Prelude.{Option, Some, None, ⊤}
 use Rattle.pcre_io.specs.Files.{Contents, File, opened_file}
 use Rattle.line_feed.specs.Rows.{Input, End, input_with}
 use Rattle.line_feed.specs.Hears.{heard}

@@ -1,5 +1,5 @@
--- How a run takes its inputs: targets, and how files and standard input stood → what the targets stand for, and how they stand
--- then.
+-- How a run takes its inputs: targets, and how files and standard input stood → what the targets stand for, and how
+-- they stand then.
 use Rattle.std.specs.Prelude.{◌≡◌, ℕ, Bool, true, false, List, Option}
 use Rattle.pcre_io.specs.Told.{Told}
 use Rattle.pcre_io.specs.Files.{Contents, Filed}
@@ -28,8 +28,8 @@ abbrev pub IsLeft : Bool → Bool → Told → Told → Input → Type 0
 IsLeft true is_used before after left = (is_used ≡ true) × (after ≡ before) × (left ≡ nothing)
 IsLeft false is_used before after left = (is_used ≡ true) × Hears before after left
 
--- The targets stand for these inputs, where standard input was or wasn't used before them, and is or isn't after them. As
--- long as it isn't, they stand for them whatever it stands for.
+-- The targets stand for these inputs, where standard input was or wasn't used before them, and is or isn't after them.
+-- As long as it isn't, they stand for them whatever it stands for.
 abbrev pub Takes : Bool → Bool → Told → Told → Option Contents → List Target → List Asked
     → Type 0
 Takes true is_used before after contents list given =

@@ -1,4 +1,5 @@
-//! What a tool takes and writes: what its targets stand for, and results to one sink, messages to another, with a status.
+//! What a tool takes and writes: what its targets stand for, and results to one sink, messages to another, with a
+//! status.
 #![tactic(auto)]
 
 mod laws;

@@ -7,7 +7,8 @@ ghost use Rattle.tool_io.specs.Printed.{printed};
 use crate::write::write_texts;
 use pcre_io::{IoError, Sink};
 
-/// Writes a line to the messages, and answers a status below 3; or 3 where memory lacked, and 4 where a write was refused.
+/// Writes a line to the messages, and answers a status below 3; or 3 where memory lacked, and 4 where a write was
+/// refused.
 pub fn say<E: Sink>(err: &mut E, text: &[u8], status: u8) -> u8
     requires { status < 3 }
     ensures { (out : Kept) → Runs (said text.now status) result (printed out (E.tells err.old))

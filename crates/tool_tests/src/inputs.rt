@@ -178,8 +178,8 @@ fn ends_well(alloc: Global, line: &str, source: &mut MemSource) -> Result<bool, 
     Ok(matches!(found, Some((Ok(_), _))))
 }
 
-// How many bytes of a long input are taken, of which a read gives so many at most; or more than all where the run doesn't
-// end well.
+// How many bytes of a long input are taken, of which a read gives so many at most; or more than all where the run
+// doesn't end well.
 fn taken_by(rt: &impl Abort, alloc: Global, row: &str, piece: u32) -> Result<usize, Fail>
     requires some { 1 ≤ piece }
 {
@@ -221,8 +221,8 @@ fn the_rest_of_an_input_is_left(rt: HostRuntime) -> Result<(), Fail> {
 
 #[test]
 fn no_bytes_are_waited_for_that_change_nothing(rt: HostRuntime) -> Result<(), Fail> {
-    // Words, the first lines of a long input that comes byte by byte, and how many of these bytes are asked for: up to the
-    // line that decides, or the first 1,024 where something else is written of a binary input.
+    // Words, the first lines of a long input that comes byte by byte, and how many of these bytes are asked for: up to
+    // the line that decides, or the first 1,024 where something else is written of a binary input.
     static ROWS: [(Row, usize); 20] = [
         ("-q x < b\nx\nc\n", 4),
         ("-q x < b\nx\0\n", 5),

@@ -1,5 +1,6 @@
 -- A property's number is its place in the list of names.
-use Rattle.std.proofs.Common.{◌≡◌, ℕ, ◌≤◌, Bool, true, ◌==◌, List, length, Option, Some, None, IfSome, refl, sym, ap, subst, eqb-true, arith, inl, inr}
+use Rattle.std.proofs.Common.{◌≡◌, ℕ, ◌≤◌, Bool, true, ◌==◌, List, length, Option, Some, None, IfSome, refl, sym, ap}
+use Rattle.std.proofs.Common.{subst, eqb-true, arith, inl, inr}
 use Rattle.std.proofs.lemmas.Bool.{cases_lt}
 use Rattle.std.proofs.lemmas.Option.{slice_get_past}
 use Rattle.std.specs.Option.{option_map}
@@ -270,11 +271,13 @@ from_test n None h = tt
 from_test n (Some p) h = eqb-true (prop_number p) n h
 
 past_names : (n : ℕ) → 221 ≤ n → prop_by_number n ≡ None
-past_names n past = ap (option_map (λ (row : List ℕ × Prop). row.1)) (slice_get_past names n (subst (λ k. k ≤ n) (sym long) past))
+past_names n past = ap (option_map (λ (row : List ℕ × Prop). row.1))
+    (slice_get_past names n (subst (λ k. k ≤ n) (sym long) past))
 
 pub prop_number-prop_by_number : (n : ℕ) → IfSome (prop_by_number n) (λ p. prop_number p ≡ n)
 prop_number-prop_by_number n = elim (cases_lt n 221) [
-  | inl below ↦ from_test n (prop_by_number n) (all_below-at (λ n. has_number n (prop_by_number n)) 221 n rows_numbered below)
+  | inl below ↦ from_test n (prop_by_number n)
+      (all_below-at (λ n. has_number n (prop_by_number n)) 221 n rows_numbered below)
   | inr past ↦ subst (λ o. IfSome o (λ (p : Prop). prop_number p ≡ n)) (sym (past_names n (omega arith))) tt
 ]
 

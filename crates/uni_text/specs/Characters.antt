@@ -1,9 +1,11 @@
 -- Characters and their places.
 --
--- Without UTF a character is one byte. In UTF the text is checked: it is the encodings of scalar values in a row, as RFC 3629, section 3, writes them
--- (std's `IsUtf8`, and `encode_utf8` for its table of one to four bytes). A character's place is one where no continuation byte stands (std's
--- `IsCharBoundary`); that this is a place with whole characters before it is a law.
-use Rattle.std.specs.Prelude.{◌≡◌, ℕ, ◌+◌, ◌-◌, ◌≤◌, Bool, true, false, List, [], ◌∷◌, length, take, drop, slice_index, slice_range, IsTrue, IsUtf8, IsCharBoundary, chars, encode_utf8}
+-- Without UTF a character is one byte. In UTF the text is checked: it is the encodings of scalar values in a row, as
+-- RFC 3629, section 3, writes them (std's `IsUtf8`, and `encode_utf8` for its table of one to four bytes). A
+-- character's place is one where no continuation byte stands (std's `IsCharBoundary`); that this is a place with whole
+-- characters before it is a law.
+use Rattle.std.specs.Prelude.{◌≡◌, ℕ, ◌+◌, ◌-◌, ◌≤◌, Bool, true, false, List, [], ◌∷◌, length, take, drop}
+use Rattle.std.specs.Prelude.{slice_index, slice_range, IsTrue, IsUtf8, IsCharBoundary, chars, encode_utf8}
 use Rattle.std.specs.Char.{IsScalar, len_utf8}
 
 -- the first and the last character of a text

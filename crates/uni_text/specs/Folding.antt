@@ -8,6 +8,7 @@ use Rattle.uni_text.specs.Properties.{is_char}
 abbrev pub fold : ℕ → ℕ
 fold c = if is_char c then simple_fold c else c
 
--- in UTF-8 a character past ASCII with the folding of c may begin with the byte b: with any where c is past ASCII itself, with that of the Kelvin sign where c is k, and with that of the long s where c is s
+-- in UTF-8 a character past ASCII with the folding of c may begin with the byte b: with any where c is past ASCII
+-- itself, with that of the Kelvin sign where c is k, and with that of the long s where c is s
 abbrev pub begins_past_ascii : ℕ → ℕ → Bool
 begins_past_ascii c b = nat_le 128 c || (ascii_fold c == 107 && b == 0xE2 || ascii_fold c == 115 && b == 0xC5)

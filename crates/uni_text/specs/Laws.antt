@@ -7,7 +7,8 @@ use Rattle.uni_text.specs.Properties.{is_char, has_prop, prop_by_number, prop_nu
 
 -- a character's place in a checked text is one with whole characters before it
 abbrev pub PlacesAreBetweenCharacters : Type 0
-PlacesAreBetweenCharacters = (bytes : List ℕ) (at : ℕ) → IsUtf8 bytes → at ≤ length bytes → (IsCharBoundary bytes at ↔ IsUtf8 (take at bytes))
+PlacesAreBetweenCharacters = (bytes : List ℕ) (at : ℕ) → IsUtf8 bytes → at ≤ length bytes
+    → (IsCharBoundary bytes at ↔ IsUtf8 (take at bytes))
 
 -- the length at which bytes are refused is that of the longest part from their start on that is UTF-8
 pub record IsLongestPart (bytes : List ℕ) (n : ℕ) : Type 0 where

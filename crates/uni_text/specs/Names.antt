@@ -1,5 +1,6 @@
--- The names of the properties: any character, the three sets of Perl's, Unicode's categories and their groups, and its scripts, each by the name of its
--- variant (pcre2pattern, "Unicode character properties"). A property's number is its place in the list.
+-- The names of the properties: any character, the three sets of Perl's, Unicode's categories and their groups, and its
+-- scripts, each by the name of its variant (pcre2pattern, "Unicode character properties"). A property's number is its
+-- place in the list.
 use Rattle.std.specs.Prelude.{ℕ, List, [], ◌∷◌, codes}
 use Rattle.ucd_category.specs.declared.GeneralCategory.TheVariants as category
 use Rattle.ucd_category.specs.declared.GeneralCategoryGroup.TheVariants as group

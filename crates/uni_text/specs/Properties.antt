@@ -1,12 +1,15 @@
--- Unicode's properties of a character, as `\p` names them (pcre2pattern, "Unicode character properties"), by the tables of the crate `unicode`.
-use Rattle.std.specs.Prelude.{ℕ, ◌+◌, Bool, true, not, ◌&&◌, ◌||◌, ◌==◌, nat_lt, List, map, filter, find, bytes_eq, Option, slice_get}
+-- Unicode's properties of a character, as `\p` names them (pcre2pattern, "Unicode character properties"), by the tables
+-- of the crate `unicode`.
+use Rattle.std.specs.Prelude.{ℕ, ◌+◌, Bool, true, not, ◌&&◌, ◌||◌, ◌==◌, nat_lt, List, map, filter, find, bytes_eq}
+use Rattle.std.specs.Prelude.{Option, slice_get}
 use Rattle.std.specs.Option.{option_map}
 use Rattle.std.specs.Char.{to_ascii_lowercase}
 use Rattle.std.specs.Int.{is_in_range}
 use Rattle.ucd_category.specs.declared.GeneralCategory.{GeneralCategory}
 use Rattle.ucd_category.specs.declared.GeneralCategory.TheVariants.{NonspacingMark, ConnectorPunctuation}
 use Rattle.ucd_category.specs.declared.GeneralCategoryGroup.{GeneralCategoryGroup}
-use Rattle.ucd_category.specs.declared.GeneralCategoryGroup.TheVariants.{Other, Letter, CasedLetter, Mark, Number, Punctuation, Symbol, Separator}
+use Rattle.ucd_category.specs.declared.GeneralCategoryGroup.TheVariants.{Other, Letter, CasedLetter, Mark, Number}
+use Rattle.ucd_category.specs.declared.GeneralCategoryGroup.TheVariants.{Punctuation, Symbol, Separator}
 use Rattle.ucd_category.specs.GeneralCategory.{general_category, general_category_number, general_category_eq}
 use Rattle.ucd_category.specs.GeneralCategoryGroup.{in_group}
 use Rattle.ucd_script.specs.Script.{script, script_number, script_eq}
@@ -20,7 +23,8 @@ is_char c = nat_lt c 0xD800 || is_in_range 0xE000 0x10_FFFF c
 
 -- `\h`: the horizontal white space
 abbrev pub is_horizontal : ℕ → Bool
-is_horizontal c = c == 0x9 || c == 0x20 || c == 0xA0 || c == 0x1680 || c == 0x180E || is_in_range 0x2000 0x200A c || c == 0x202F || c == 0x205F || c == 0x3000
+is_horizontal c = c == 0x9 || c == 0x20 || c == 0xA0 || c == 0x1680 || c == 0x180E || is_in_range 0x2000 0x200A c
+    || c == 0x202F || c == 0x205F || c == 0x3000
 
 -- `\v`: the vertical white space
 abbrev pub is_vertical : ℕ → Bool
@@ -42,7 +46,8 @@ is_alnum c = is_in Letter c || is_in Number c
 abbrev pub is_space : ℕ → Bool
 is_space c = is_in Separator c || is_horizontal c || is_vertical c
 
--- `\w` with UCP: a letter, a number, a mark without a place of its own (Mn), or what connects words as the underscore does (Pc)
+-- `\w` with UCP: a letter, a number, a mark without a place of its own (Mn), or what connects words as the underscore
+-- does (Pc)
 abbrev pub is_word_of_unicode : ℕ → Bool
 is_word_of_unicode c = is_in Letter c || is_in Number c || (is_of NonspacingMark c || is_of ConnectorPunctuation c)
 
@@ -71,7 +76,8 @@ plain_name written = map to_ascii_lowercase (filter (λ b. not (is_passed_over b
 
 -- the property of the first row of a name, and that of the row at a place
 abbrev pub named : List (List ℕ × Prop) → List ℕ → Option Prop
-named rows written = option_map (λ (row : List ℕ × Prop). row.1) (find (λ (row : List ℕ × Prop). bytes_eq (plain_name written) row.0) rows)
+named rows written = option_map (λ (row : List ℕ × Prop). row.1)
+    (find (λ (row : List ℕ × Prop). bytes_eq (plain_name written) row.0) rows)
 
 abbrev pub numbered : List (List ℕ × Prop) → ℕ → Option Prop
 numbered rows n = option_map (λ (row : List ℕ × Prop). row.1) (slice_get rows n)

@@ -1,8 +1,9 @@
--- The sets of characters that have a name, without UCP as ASCII has them, and with UCP by Unicode's properties (pcre2pattern, "Generic character types"
--- and "POSIX character classes").
+-- The sets of characters that have a name, without UCP as ASCII has them, and with UCP by Unicode's properties
+-- (pcre2pattern, "Generic character types" and "POSIX character classes").
 use Rattle.std.specs.Prelude.{ℕ, Bool, true, false, not, ◌&&◌, ◌||◌, ◌==◌, nat_lt}
 use Rattle.std.specs.Int.{is_in_range}
-use Rattle.ucd_category.specs.declared.GeneralCategory.TheVariants.{UppercaseLetter, LowercaseLetter, DecimalNumber, SpaceSeparator, Control, Format}
+use Rattle.ucd_category.specs.declared.GeneralCategory.TheVariants.{UppercaseLetter, LowercaseLetter, DecimalNumber}
+use Rattle.ucd_category.specs.declared.GeneralCategory.TheVariants.{SpaceSeparator, Control, Format}
 use Rattle.ucd_category.specs.declared.GeneralCategoryGroup.TheVariants.{Letter, Mark, Number, Punctuation, Symbol}
 use Rattle.uni_text.specs.declared.properties.Prop.TheVariants.{Xan, Xsp, Xwd, Group, Category}
 use Rattle.uni_text.specs.Ascii.{is_digit, is_capital, is_small, is_letter, is_word_char}
@@ -55,7 +56,8 @@ is_mark_of_direction c = c == 0x61C || c == 0x180E || is_in_range 0x2066 0x2069 
 abbrev pub graph : Bool → ℕ → Bool
 graph false c = is_in_range 33 126 c
 graph true c =
-    has_prop (Group Letter) c || has_prop (Group Mark) c || has_prop (Group Number) c || has_prop (Group Punctuation) c || has_prop (Group Symbol) c
+    has_prop (Group Letter) c || has_prop (Group Mark) c || has_prop (Group Number) c || has_prop (Group Punctuation)
+    c || has_prop (Group Symbol) c
     || (has_prop (Category Format) c && not (is_mark_of_direction c))
 
 abbrev pub print : Bool → ℕ → Bool

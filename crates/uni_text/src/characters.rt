@@ -6,8 +6,8 @@ ghost use Rattle.uni_text.specs.Characters as text;
 
 /// The character that begins at `at`, a place in bytes, and the place after it.
 ///
-/// Without UTF it is the byte there. In UTF it is a code point, in the bytes of RFC 3629, section 3; the bytes must then be UTF-8,
-/// and a character must begin at `at` (pcre2unicode).
+/// Without UTF it is the byte there. In UTF it is a code point, in the bytes of RFC 3629, section 3; the bytes must
+/// then be UTF-8, and a character must begin at `at` (pcre2unicode).
 #[inline]
 pub fn char_at(bytes: &[u8], at: usize, utf: bool) -> (u32, usize)
     requires below { at < length bytes.now }

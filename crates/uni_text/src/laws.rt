@@ -1,5 +1,6 @@
 // Laws on the definitions, and worked rows.
-ghost use Rattle.uni_text.specs.Laws.{FoldingsAreFixed, NumbersAreInverse, OthersHaveNoProperty, PlacesAreBetweenCharacters, ValidPartIsLongest};
+ghost use Rattle.uni_text.specs.Laws.{FoldingsAreFixed, NumbersAreInverse, OthersHaveNoProperty};
+ghost use Rattle.uni_text.specs.Laws.{PlacesAreBetweenCharacters, ValidPartIsLongest};
 ghost use Rattle.uni_text.specs.Rows.{FoldingRows, PropertyRows, WorkedRows};
 
 /// A character's place in a checked text is one with whole characters before it.

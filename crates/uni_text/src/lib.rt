@@ -1,7 +1,8 @@
-//! Characters of a pattern or a subject: the one that begins at a place, the one that ends there, their properties and foldings.
+//! Characters of a pattern or a subject: the one that begins at a place, the one that ends there, their properties and
+//! foldings.
 //!
-//! Without UTF a character is one byte. In UTF it is one code point, in the bytes of RFC 3629 (pcre2unicode). The tables are those
-//! of Unicode 18.0.
+//! Without UTF a character is one byte. In UTF it is one code point, in the bytes of RFC 3629 (pcre2unicode). The
+//! tables are those of Unicode 18.0.
 #![tactic(auto)]
 
 mod characters;

@@ -10,7 +10,8 @@ use ucd_script::Script;
 /// A name and its property.
 type Row = (&'static str, Prop);
 
-/// Each property with its name, in the order of the properties' numbers. Names are in small letters, without hyphens and underscores.
+/// Each property with its name, in the order of the properties' numbers. Names are in small letters, without hyphens
+/// and underscores.
 static NAMES: [Row; 221] = [
     ("any", Prop::Any),
     ("xan", Prop::Xan),

@@ -28,8 +28,8 @@ pub enum Prop {
 }
 
 impl Prop {
-    /// The property of a name: a category, `L&`, `Any`, `Xan`, `Xsp`, `Xps`, `Xwd`, or a script by the name of its variant.
-    /// ASCII case, spaces, hyphens and underscores don't count. None for an unknown name.
+    /// The property of a name: a category, `L&`, `Any`, `Xan`, `Xsp`, `Xps`, `Xwd`, or a script by the name of its
+    /// variant. ASCII case, spaces, hyphens and underscores don't count. None for an unknown name.
     pub fn by_name(name: &[u8]) -> Option<Prop>
         ensures { result ≡ spec.prop_by_name name.now }
     {
@@ -77,7 +77,8 @@ fn group_number(group: GeneralCategoryGroup) -> u16
     }
 }
 
-/// Whether the number `c` is a character that has the property. A number that is no character, as a surrogate, has none.
+/// Whether the number `c` is a character that has the property. A number that is no character, as a surrogate, has
+/// none.
 #[inline]
 pub fn has_prop(p: Prop, c: u32) -> bool
     ensures { result ≡ spec.has_prop p c }

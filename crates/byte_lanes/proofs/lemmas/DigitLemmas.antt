@@ -1,5 +1,6 @@
 -- The number that digits write, one digit after another.
-use Rattle.std.proofs.Common.{◌≡◌, ℕ, ◌+◌, ◌*◌, ◌<◌, ◌≤◌, List, length, take, get_or, take_all, Some, None, refl, sym, ap, ◌∙◌, arith, le-leb, inl, inr}
+use Rattle.std.proofs.Common.{◌≡◌, ℕ, ◌+◌, ◌*◌, ◌<◌, ◌≤◌, List, length, take, get_or, take_all, Some, None, refl}
+use Rattle.std.proofs.Common.{sym, ap, ◌∙◌, arith, le-leb, inl, inr}
 use Rattle.std.proofs.lemmas.Bool.{cases_lt, lt-leb}
 use Rattle.std.proofs.lemmas.Int.Digits.{digits_value_more}
 use Rattle.std.proofs.lemmas.Str.Parse.{digits_value-take-le}
@@ -32,13 +33,16 @@ is_within n m e = elim (cases_lt 4294967295 n) [
 
 module _ (radix : ℕ) (digits : List ℕ) (i n : ℕ) (read : n ≡ digits_value radix (take i digits)) where
   longer : i < length digits → n * radix + digit_value (get_or digits i 0) ≡ digits_value radix (take (i + 1) digits)
-  longer inside = ap (λ m. m * radix + digit_value (get_or digits i 0)) read ∙ sym (digits_value_more radix digits i inside)
+  longer inside = ap (λ m. m * radix + digit_value (get_or digits i 0)) read
+      ∙ sym (digits_value_more radix digits i inside)
 
-  pub one_more : i < length digits → (m : ℕ) → Some m ≡ within_u32 (n * radix + digit_value (get_or digits i 0)) → (m ≡ digits_value radix (take (i + 1) digits)) × (m ≤ 4294967295)
+  pub one_more : i < length digits → (m : ℕ) → Some m ≡ within_u32 (n * radix + digit_value (get_or digits i 0))
+      → (m ≡ digits_value radix (take (i + 1) digits)) × (m ≤ 4294967295)
   one_more inside m e = let (same, small) = is_within _ m e in (same ∙ longer inside, small)
 
   -- further digits only make the number greater
-  pub too_much : i < length digits → 1 ≤ radix → None ≡ within_u32 (n * radix + digit_value (get_or digits i 0)) → None ≡ number_of radix digits
+  pub too_much : i < length digits → 1 ≤ radix → None ≡ within_u32 (n * radix + digit_value (get_or digits i 0))
+      → None ≡ number_of radix digits
   too_much inside some e =
       let large = is_past _ e in
       let same = longer inside in

@@ -16,7 +16,8 @@ either_set false false h = absurd cc
 either_test : (x : ℕ) → is_plain x ≡ false → (leb x 13 || leb 128 x) ≡ true
 either_test x other = grind (arith, nat_tests)
 
-pub Covers-others : (bytes : List ℕ) (i : ℕ) {v : List ℕ} → HasLanes v (λ k. lane_of (get_or bytes (i + k) 0)) → Covers (IsOther bytes) i v
+pub Covers-others : (bytes : List ℕ) (i : ℕ) {v : List ℕ} → HasLanes v (λ k. lane_of (get_or bytes (i + k) 0))
+    → Covers (IsOther bytes) i v
 Covers-others bytes i {v} h = record {
   long = h.long;
   each = λ k l other.

@@ -16,8 +16,10 @@ pub returns-in-Ok : goal.returns-in-Ok
 returns-in-Ok c =
     inl (
       refl,
-      subst (λ h. IsHeld h (λ e. Compiles (options_of c.args.asked.now) c.args.pattern.now e.code.value)) (sym c.of.ensures)
-          (subst (λ (o : Options). Compiles o c.args.pattern.now c.in-Ok.engine.value.code.value) c.options_of.ensures c.in-Ok.ensures.compiled),
+      subst (λ h. IsHeld h (λ e. Compiles (options_of c.args.asked.now) c.args.pattern.now e.code.value))
+          (sym c.of.ensures)
+          (subst (λ (o : Options). Compiles o c.args.pattern.now c.in-Ok.engine.value.code.value) c.options_of.ensures
+          c.in-Ok.ensures.compiled),
     )
 
 pub returns-in-Err-Memory : goal.returns-in-Err-Memory
@@ -29,8 +31,12 @@ returns-in-Err-Bad c =
     inr (inl (
       refl,
       c.requires,
-      subst (λ (f : Fault). IsCompileError (compiled (options_of c.args.asked.now) c.args.pattern.now) (Bad f.number f.at)) (sym c.fault_of.ensures)
-          (subst (λ n. IsCompileError (compiled (options_of c.args.asked.now) c.args.pattern.now) (Bad n c.in-Err-Bad.at)) (sym (to_z-of_z w32 c.in-Err-Bad.number fits))
-          (subst (λ (o : Options). IsCompileError (compiled o c.args.pattern.now) (Bad c.in-Err-Bad.number c.in-Err-Bad.at)) c.options_of.ensures
-          (subst (λ e. IsCompileError (compiled c.options_of.result c.args.pattern.now) e) c.in-Err-Bad.field-0-is c.in-Err-Bad.ensures.refused))),
+      subst (λ (f : Fault). IsCompileError (compiled (options_of c.args.asked.now) c.args.pattern.now)
+          (Bad f.number f.at)) (sym c.fault_of.ensures)
+          (subst (λ n. IsCompileError (compiled (options_of c.args.asked.now) c.args.pattern.now)
+          (Bad n c.in-Err-Bad.at)) (sym (to_z-of_z w32 c.in-Err-Bad.number fits))
+          (subst (λ (o : Options). IsCompileError (compiled o c.args.pattern.now)
+          (Bad c.in-Err-Bad.number c.in-Err-Bad.at)) c.options_of.ensures
+          (subst (λ e. IsCompileError (compiled c.options_of.result c.args.pattern.now) e) c.in-Err-Bad.field-0-is
+          c.in-Err-Bad.ensures.refused))),
     ))

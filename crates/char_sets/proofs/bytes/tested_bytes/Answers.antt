@@ -14,5 +14,6 @@ loop-b-preserved c k l =
           ap (λ s. get_or s k false) w.bytes-is ∙ w.insert.ensures k ∙ ap (λ x. x || k == b) before
           ∙ one_more test b k (sym c.is_in_set.ensures ∙ w.if-is_in_set.true)
       | else-is_in_set w ↦
-          ap (λ s. get_or s k false) w.bytes-is ∙ before ∙ none_more test b k (sym c.is_in_set.ensures ∙ w.if-is_in_set.false)
+          ap (λ s. get_or s k false) w.bytes-is ∙ before ∙ none_more test b k
+          (sym c.is_in_set.ensures ∙ w.if-is_in_set.false)
     ]

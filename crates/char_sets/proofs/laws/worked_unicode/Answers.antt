@@ -8,4 +8,15 @@ use Rattle.char_sets.proofs.laws.worked_unicode.Goals as goal
 
 pub returns : goal.returns
 unfolding names ucd_category ucd_case fold_pairs fold_other_rows
-returns c = record { not_kelvin = refl; not_k = refl; kelvin_outside = refl; long_s = refl; e_acute = refl; not_a_word = refl; upper_folds = refl; property_stays = refl; surrogate = refl; no_property = refl }
+returns c = record {
+  not_kelvin = refl;
+  not_k = refl;
+  kelvin_outside = refl;
+  long_s = refl;
+  e_acute = refl;
+  not_a_word = refl;
+  upper_folds = refl;
+  property_stays = refl;
+  surrogate = refl;
+  no_property = refl;
+}

@@ -12,4 +12,5 @@ pub returns-in_ok-add_set-in-Set : goal.returns-in_ok-add_set-in-Set
 returns-in_ok-add_set-in-Set c k =
     rw c.in-Set.is
     (c.in_ok-add_set-in-Set.ensures k
-    ∙ ap (λ (set : SetName). list_any (λ set. set_in set k) c.args.sets.now.items || set_in (record { set = set; reversed = c.in-Set.not; ucp = c.in-Set.ucp }) k) c.in_case.ensures)
+    ∙ ap (λ (set : SetName). list_any (λ set. set_in set k) c.args.sets.now.items || set_in
+    (record { set = set; reversed = c.in-Set.not; ucp = c.in-Set.ucp }) k) c.in_case.ensures)

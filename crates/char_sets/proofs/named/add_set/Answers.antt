@@ -10,15 +10,19 @@ use Rattle.char_sets.proofs.named.add_set.Goals as goal
 -- a set that is there adds nothing
 kept : (c : ℕ) (sets : List NamedSet) (named : NamedSet) → Contains sets named →
     list_any (λ set. set_in set c) sets ≡ (list_any (λ set. set_in set c) sets || set_in named c)
-kept c sets named at = elim (set_in named c) as (λ b. set_in named c ≡ b → list_any (λ set. set_in set c) sets ≡ (list_any (λ set. set_in set c) sets || b)) [
-  | true ↦ λ is. let all : list_any (λ set. set_in set c) sets ≡ true = contained (λ set. set_in set c) sets named at is in all ∙ sym (ap (λ b. b || true) all)
-  | false ↦ λ is. or_none (list_any (λ set. set_in set c) sets)
-] refl
+kept c sets named at =
+    elim (set_in named c) as (λ b. set_in named c ≡ b → list_any (λ set. set_in set c)
+    sets ≡ (list_any (λ set. set_in set c) sets || b)) [
+      | true ↦ λ is. let all : list_any (λ set. set_in set c) sets ≡ true =
+          contained (λ set. set_in set c) sets named at is in all ∙ sym (ap (λ b. b || true) all)
+      | false ↦ λ is. or_none (list_any (λ set. set_in set c) sets)
+    ] refl
 
 pub returns-then-has_set : goal.returns-then-has_set
 returns-then-has_set c k =
     kept k c.args.sets.now.items c.args.named
-    (subst (λ (sets : List NamedSet). Contains sets c.args.named) c.deref.ensures.value (c.has_set.ensures c.if-has_set.true))
+    (subst (λ (sets : List NamedSet). Contains sets c.args.named) c.deref.ensures.value
+    (c.has_set.ensures c.if-has_set.true))
 
 pub returns : goal.returns
 returns c k =

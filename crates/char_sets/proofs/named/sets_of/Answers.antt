@@ -7,4 +7,5 @@ pub loop-part-preserved : goal.loop-part-preserved
 loop-part-preserved c k =
     c.in_ok-add_part.ensures k
     ∙ ap₂ ◌||◌ (c.loop-part.invariant k) refl
-    ∙ sym (list_any_more (λ part. set_part_has c.args.caseless k part) c.args.parts.now c.loop-part.part-index _ c.loop-part-test.true)
+    ∙ sym (list_any_more (λ part. set_part_has c.args.caseless k part) c.args.parts.now c.loop-part.part-index _
+    c.loop-part-test.true)

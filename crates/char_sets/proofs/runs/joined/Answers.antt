@@ -1,4 +1,5 @@
-use Rattle.std.proofs.Common.{ℕ, ◌+◌, ◌<◌, ◌≤◌, ◌||◌, List, get_or, take_all, sym, ap, ◌∙◌, arith, rules, le_trans, length}
+use Rattle.std.proofs.Common.{ℕ, ◌+◌, ◌<◌, ◌≤◌, ◌||◌, List, get_or, take_all, sym, ap, ◌∙◌, arith, rules, le_trans}
+use Rattle.std.proofs.Common.{length}
 use Rattle.std.proofs.lemmas.List.{get_or_default}
 use Rattle.std.proofs.lemmas.List.Folds.{list_any_more}
 use Rattle.std.proofs.lemmas.List.Sorted.{IsNonDecreasingBy-from_sort_by_key, list_any-IsPermutation}
@@ -8,8 +9,13 @@ use Rattle.char_sets.specs.Runs.{runs_have}
 use Rattle.char_sets.proofs.RunLemmas.{run_has}
 use Rattle.char_sets.proofs.runs.joined.Goals as goal
 
-step : (runs : List Run) → IsNonDecreasingBy (λ (r : Run). r.from) runs → (i k : ℕ) (d e : Run) → i + 1 ≤ k → k < length runs → (get_or runs i d).from ≤ (get_or runs k e).from
-step runs sorted i k d e le lt = omega (arith, sorted i k e (omega arith) lt, ap (λ (r : Run). r.from) (get_or_default runs i d e (omega arith)))
+step : (runs : List Run) → IsNonDecreasingBy (λ (r : Run). r.from) runs → (i k : ℕ) (d e : Run) → i + 1 ≤ k
+    → k < length runs → (get_or runs i d).from ≤ (get_or runs k e).from
+step runs sorted i k d e le lt = omega (
+  arith,
+  sorted i k e (omega arith) lt,
+  ap (λ (r : Run). r.from) (get_or_default runs i d e (omega arith)),
+)
 
 pub loop-run-preserved : goal.loop-run-preserved
 loop-run-preserved c =
@@ -20,9 +26,11 @@ loop-run-preserved c =
     let d : Run = record { from = 0; to = 0 } in
     let sorted : IsNonDecreasingBy (λ (r : Run). r.from) runs =
     rw c.deref-run-items.ensures.value
-    (IsNonDecreasingBy-from_sort_by_key (λ (r : Run). r.from) _ c.sort_unstable_by_key.ensures.sorted (λ a r q k. search rules)) in
+    (IsNonDecreasingBy-from_sort_by_key (λ (r : Run). r.from) _ c.sort_unstable_by_key.ensures.sorted
+    (λ a r q k. search rules)) in
     record {
-      same = λ x. added.members x ∙ ap (λ b. b || run_has x (get_or runs i d)) (inv.same x) ∙ sym (list_any_more (run_has x) runs i d c.loop-run-test.true);
+      same = λ x. added.members x ∙ ap (λ b. b || run_has x (get_or runs i d)) (inv.same x)
+          ∙ sym (list_any_more (run_has x) runs i d c.loop-run-test.true);
       rising = added.rising;
       last = λ k e le lt j f within. le_trans (added.last j f within) (step runs sorted i k d e le lt);
     }

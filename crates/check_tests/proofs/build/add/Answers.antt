@@ -14,6 +14,7 @@ add-requires-clause-fresh c = last_free c.args.draft.now c.args.waiting.now.item
 pub returns-clause-made : goal.returns-clause-made
 returns-clause-made c =
     let d = c.args.draft.now in
-    let made : IsDraft (with_node d (record { node = c.args.node; at = c.args.at })) (c.args.waiting.now.items ++ length d.nodes ∷ []) =
+    let made : IsDraft (with_node d (record { node = c.args.node; at = c.args.at }))
+    (c.args.waiting.now.items ++ length d.nodes ∷ []) =
     draft_more d c.args.waiting.now.items (record { node = c.args.node; at = c.args.at }) c.requires.made in
     rw (c.in_ok-push.ensures.items, c.in_ok-id.ensures.number, c.in_ok-id.ensures.grows) made

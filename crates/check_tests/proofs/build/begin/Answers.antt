@@ -7,4 +7,5 @@ pub returns-clause-made : goal.returns-clause-made
 returns-clause-made c =
     let new = c.new-draft.ensures in
     rw (c.in_ok-add_class.ensures.grows)
-    (draft_begun c.new-draft.result _ (ap (λ (d : DraftParts). d.nodes) new) (ap (λ (d : DraftParts). d.classes) new) (ap (λ (d : DraftParts). d.names) new))
+    (draft_begun c.new-draft.result _ (ap (λ (d : DraftParts). d.nodes) new) (ap (λ (d : DraftParts). d.classes) new)
+    (ap (λ (d : DraftParts). d.names) new))

@@ -10,8 +10,13 @@ finish-requires-clause-root c = elim c.match-pop.branch [
   | in-Some w ↦
       let d = c.loop-at.draft in
       let front = c.pop.new.self.items in
-      let all = last_below d front (w.in-Some.root ∷ []) (subst (IsDraft d) w.in-Some.ensures.items c.loop-at.invariant.made) in
+      let all = last_below d front (w.in-Some.root ∷ [])
+      (subst (IsDraft d) w.in-Some.ensures.items c.loop-at.invariant.made) in
       rw (w.root-is, w.draft-is) (All-head (λ k. k < length d.nodes) w.in-Some.root [] all)
   | in-None+in_ok-root-in-None w ↦
-      rw (w.root-is, w.draft-is) (omega (arith, w.in_ok-root-in-None.ensures.number, w.in_ok-root-in-None.ensures.count))
+      rw (w.root-is, w.draft-is) (omega (
+        arith,
+        w.in_ok-root-in-None.ensures.number,
+        w.in_ok-root-in-None.ensures.count,
+      ))
 ]

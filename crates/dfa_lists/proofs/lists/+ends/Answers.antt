@@ -1,4 +1,5 @@
-use Rattle.std.proofs.Common.{◌≡◌, ◌∙◌, ◌+◌, ◌++◌, ◌∷◌, ◌-◌, suc, ◌<◌, ◌≤◌, [], refl, sym, ap, subst, length, Some, None, false, arith, rules}
+use Rattle.std.proofs.Common.{◌≡◌, ◌∙◌, ◌+◌, ◌++◌, ◌∷◌, ◌-◌, suc, ◌<◌, ◌≤◌, [], refl, sym, ap, subst, length, Some}
+use Rattle.std.proofs.Common.{None, false, arith, rules}
 use Rattle.std.proofs.lemmas.Grind.{common_steps}
 use Rattle.std.specs.Prelude.{◌||◌, slice_index_or}
 use Rattle.pat_tree.specs.declared.nodes.Item.TheVariants.{Char}
@@ -9,11 +10,16 @@ use Rattle.dfa_lists.specs.Searches.{scene_of, PathsOf, MeetsOf, IsPlaceOf}
 use Rattle.dfa_paths.proofs.Places.{get_of}
 use Rattle.dfa_lists.proofs.Closing as closing
 use Rattle.dfa_lists.proofs.Closing.{popped_in, popped_marks, passed_over, visited, fewer, read_mark}
-use Rattle.dfa_lists.proofs.Running.{starts, goes_on, stands_here, waiting_below, below_like, leaves_in, place_follows, none_taken, all_found, no_end, last_found}
+use Rattle.dfa_lists.proofs.Running.{starts, goes_on, stands_here, waiting_below, below_like, leaves_in}
+use Rattle.dfa_lists.proofs.Running.{place_follows, none_taken, all_found, no_end, last_found}
 use Rattle.dfa_lists.proofs.Following.{no_more, deep_stand}
-use Rattle.dfa_lists.proofs.Visits.{look_visit, none_where, ends_here, ends_none, ends_from, atomic_visit, plain_node, plain_visits}
+use Rattle.dfa_lists.proofs.Visits.{look_visit, none_where, ends_here, ends_none, ends_from, atomic_visit}
+use Rattle.dfa_lists.proofs.Visits.{plain_node, plain_visits}
 use Rattle.dfa_paths.specs.Meets.{DeepMeets, IsTold}
-use Rattle.dfa_lists.proofs.Telling.{told_not, told_or, told_like, begin_probing, branch_inside, on_probed, end_probed, probed_all, begin_told, visited_told, closed_told, starts_told, told_follows, none_told, all_told, plain_tells, look_told, atomic_told, behind_none, behind_some}
+use Rattle.dfa_lists.proofs.Telling.{told_not, told_or, told_like, begin_probing, branch_inside, on_probed}
+use Rattle.dfa_lists.proofs.Telling.{end_probed, probed_all, begin_told, visited_told, closed_told, starts_told}
+use Rattle.dfa_lists.proofs.Telling.{told_follows, none_told, all_told, plain_tells, look_told, atomic_told}
+use Rattle.dfa_lists.proofs.Telling.{behind_none, behind_some}
 use Rattle.dfa_lists.proofs.lists.+ends.Goals as goal
 use Rattle.dfa_lists.proofs.lists.+ends.Goals.{ends_of-then-not-is_empty+in_ok-take_place, ends_of-else-not-is_empty}
 

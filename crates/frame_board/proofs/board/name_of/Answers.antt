@@ -6,4 +6,5 @@ pub returns-then-number-verb_names : goal.returns-then-number-verb_names
 returns-then-number-verb_names c = name_read c.args.tree.now.verb_names c.args.number _ c.verb_name.ensures
 
 pub returns-else-number-verb_names : goal.returns-else-number-verb_names
-returns-else-number-verb_names c = name_missed c.args.tree.now.verb_names c.args.number (omega (arith, c.if-number-verb_names.false, c.verb_names.ensures))
+returns-else-number-verb_names c = name_missed c.args.tree.now.verb_names c.args.number
+    (omega (arith, c.if-number-verb_names.false, c.verb_names.ensures))

@@ -5,16 +5,23 @@ use Rattle.frame_state.proofs.CallFrames.{latest_here, latest_outer, outer_low, 
 use Rattle.frame_looks.proofs.calls.latest_call.Goals as goal
 
 pub returns-then-event-eq-KIND_CALL_OPEN : goal.returns-then-event-eq-KIND_CALL_OPEN
-returns-then-event-eq-KIND_CALL_OPEN c = latest_here c.args.store.now.records c.args.frame c.frames.height c.requires.nested c.frames.invariant.same c.frames.invariant.low (c.frames.height - 1) (omega arith) _ c.get-event.ensures c.if-event-eq-KIND_CALL_OPEN.true
+returns-then-event-eq-KIND_CALL_OPEN c = latest_here c.args.store.now.records c.args.frame c.frames.height
+    c.requires.nested c.frames.invariant.same c.frames.invariant.low (c.frames.height - 1) (omega arith) _
+    c.get-event.ensures c.if-event-eq-KIND_CALL_OPEN.true
 
 pub frames-smaller : goal.frames-smaller
-frames-smaller c = let low = outer_low c.args.store.now.records c.args.frame c.frames.height c.requires.nested c.frames.invariant.same c.frames.invariant.low (c.frames.height - 1) (omega arith) _ c.get-event.ensures in omega (arith, low)
+frames-smaller c = let low = outer_low c.args.store.now.records c.args.frame c.frames.height c.requires.nested
+    c.frames.invariant.same c.frames.invariant.low (c.frames.height - 1) (omega arith) _ c.get-event.ensures in
+    omega (arith, low)
 
 pub frames-preserved : goal.frames-preserved
 frames-preserved c =
-    let low = outer_low c.args.store.now.records c.args.frame c.frames.height c.requires.nested c.frames.invariant.same c.frames.invariant.low (c.frames.height - 1) (omega arith) _ c.get-event.ensures in
+    let low = outer_low c.args.store.now.records c.args.frame c.frames.height c.requires.nested
+    c.frames.invariant.same c.frames.invariant.low (c.frames.height - 1) (omega arith) _ c.get-event.ensures in
     record {
-      same = latest_outer c.args.store.now.records c.args.frame c.frames.height c.requires.nested c.frames.invariant.same c.frames.invariant.low (c.frames.height - 1) (omega arith) _ c.get-event.ensures c.if-event-eq-KIND_CALL_OPEN.false;
+      same = latest_outer c.args.store.now.records c.args.frame c.frames.height c.requires.nested
+          c.frames.invariant.same c.frames.invariant.low (c.frames.height - 1) (omega arith) _ c.get-event.ensures
+          c.if-event-eq-KIND_CALL_OPEN.false;
       within = omega (arith, low, c.frames.invariant.within);
       low = omega (arith, low, c.frames.invariant.low);
     }

@@ -7,8 +7,16 @@ use Rattle.frame_machine.proofs.ends.end_pattern.Goals as goal
 
 pub returns-then-is_admitted-clause-stop : goal.returns-then-is_admitted-clause-stop
 returns-then-is_admitted-clause-stop g c =
-    tells_stop c.args.spot.now _ _ (stop_found (g.S.Searchable.searched c.args.on.now) c.args.spot.now (entries c.args.store.now.records) c.args.registers.now c.requires.valid c.requires.whole (admits (g.S.Searchable.searched c.args.on.now).setting (spot_state (g.S.Searchable.searched c.args.on.now) c.args.spot.now (entries c.args.store.now.records) c.args.registers.now) (sym c.if-is_admitted.ensures)))
+    tells_stop c.args.spot.now _ _ (stop_found (g.S.Searchable.searched c.args.on.now) c.args.spot.now
+    (entries c.args.store.now.records) c.args.registers.now c.requires.valid c.requires.whole
+    (admits (g.S.Searchable.searched c.args.on.now).setting
+    (spot_state (g.S.Searchable.searched c.args.on.now) c.args.spot.now (entries c.args.store.now.records)
+    c.args.registers.now) (sym c.if-is_admitted.ensures)))
 
 pub returns-clause-on : goal.returns-clause-on
 returns-clause-on g c =
-    turn_refused (g.S.Searchable.searched c.args.on.now) c.args.spot.now (entries c.args.store.now.records) c.args.registers.now c.requires.valid c.requires.whole (refuses (g.S.Searchable.searched c.args.on.now).setting (spot_state (g.S.Searchable.searched c.args.on.now) c.args.spot.now (entries c.args.store.now.records) c.args.registers.now) (sym c.if-is_admitted.ensures))
+    turn_refused (g.S.Searchable.searched c.args.on.now) c.args.spot.now (entries c.args.store.now.records)
+    c.args.registers.now c.requires.valid c.requires.whole
+    (refuses (g.S.Searchable.searched c.args.on.now).setting
+    (spot_state (g.S.Searchable.searched c.args.on.now) c.args.spot.now (entries c.args.store.now.records)
+    c.args.registers.now) (sym c.if-is_admitted.ensures))

@@ -12,7 +12,9 @@ give_back-requires-clause-slots c = rw c.copy_from_slice.ensures.after c.require
 pub returns-then-is_empty-clause-taken : goal.returns-then-is_empty-clause-taken
 returns-then-is_empty-clause-taken c =
     c.copy_from_slice.ensures.after
-    ∙ none_undone (past c.args.height (entries c.args.store.now.records)) c.args.registers.now (eqb-true (length c.args.registers.now) 0 (sym c.if-is_empty.ensures))
+    ∙ none_undone (past c.args.height (entries c.args.store.now.records)) c.args.registers.now
+    (eqb-true (length c.args.registers.now) 0 (sym c.if-is_empty.ensures))
 
 pub returns-clause-taken : goal.returns-clause-taken
-returns-clause-taken c = c.give_back.ensures.back ∙ ap (undone (past c.args.height (entries c.args.store.now.records))) c.copy_from_slice.ensures.after
+returns-clause-taken c = c.give_back.ensures.back
+    ∙ ap (undone (past c.args.height (entries c.args.store.now.records))) c.copy_from_slice.ensures.after

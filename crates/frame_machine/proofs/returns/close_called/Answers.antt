@@ -4,17 +4,30 @@ use Rattle.frame_machine.proofs.ReturnTurns.{called_sound, stop_closed, turn_clo
 use Rattle.frame_machine.proofs.returns.close_called.Goals as goal
 
 pub number_of-number-requires-clause-inside : goal.number_of-number-requires-clause-inside
-number_of-number-requires-clause-inside g c = (called_sound (g.S.Searchable.searched c.args.on.now) (g.met.S.Searchable.sound c.args.on.now) c.args.spot.now c.args.store.now.records c.args.registers.now c.requires.valid c.args.height c.requires.frame c.args.frame.now c.requires.at c.requires.kind).0
+number_of-number-requires-clause-inside g c =
+    (called_sound (g.S.Searchable.searched c.args.on.now) (g.met.S.Searchable.sound c.args.on.now) c.args.spot.now
+    c.args.store.now.records c.args.registers.now c.requires.valid c.args.height c.requires.frame c.args.frame.now
+    c.requires.at c.requires.kind).0
 
 pub number_of-number-requires-clause-capture : goal.number_of-number-requires-clause-capture
-number_of-number-requires-clause-capture g c = (called_sound (g.S.Searchable.searched c.args.on.now) (g.met.S.Searchable.sound c.args.on.now) c.args.spot.now c.args.store.now.records c.args.registers.now c.requires.valid c.args.height c.requires.frame c.args.frame.now c.requires.at c.requires.kind).1
+number_of-number-requires-clause-capture g c =
+    (called_sound (g.S.Searchable.searched c.args.on.now) (g.met.S.Searchable.sound c.args.on.now) c.args.spot.now
+    c.args.store.now.records c.args.registers.now c.requires.valid c.args.height c.requires.frame c.args.frame.now
+    c.requires.at c.requires.kind).1
 
 pub returns-in-Err-clause-stop : goal.returns-in-Err-clause-stop
 returns-in-Err-clause-stop g c =
     held_stop _ _ _ c.args.spot.now _ _ c.in-Err.ensures.last c.in-Err.stop c.in-Err.ensures.stop
-    (λ h. stop_closed (g.S.Searchable.searched c.args.on.now) (g.met.S.Searchable.sound c.args.on.now) c.args.spot.now c.args.store.now.records c.args.registers.now c.requires.valid c.args.height c.requires.frame c.args.frame.now c.requires.at c.requires.kind c.number_of-number.result c.number_of-number.ensures.is (omega (arith, h, c.unit_limit.ensures)))
+    (λ h. stop_closed (g.S.Searchable.searched c.args.on.now) (g.met.S.Searchable.sound c.args.on.now) c.args.spot.now
+    c.args.store.now.records c.args.registers.now c.requires.valid c.args.height c.requires.frame
+    c.args.frame.now c.requires.at c.requires.kind c.number_of-number.result c.number_of-number.ensures.is
+    (omega (arith, h, c.unit_limit.ensures)))
 
 pub returns-clause-on : goal.returns-clause-on
 returns-clause-on g c =
     rw (c.in_default.ensures.set, c.in_default.ensures.spot, c.in_default.ensures.pushed)
-    (turn_closed (g.S.Searchable.searched c.args.on.now) (g.met.S.Searchable.sound c.args.on.now) c.args.spot.now c.args.store.now.records c.args.registers.now c.requires.valid c.args.height c.requires.frame c.args.frame.now c.requires.at c.requires.kind c.number_of-number.result c.number_of-number.ensures.is c.number_of-number.ensures.some c.number_of-number.ensures.few (omega (arith, c.in_default.ensures.room, c.unit_limit.ensures)))
+    (turn_closed (g.S.Searchable.searched c.args.on.now) (g.met.S.Searchable.sound c.args.on.now) c.args.spot.now
+    c.args.store.now.records c.args.registers.now c.requires.valid c.args.height c.requires.frame
+    c.args.frame.now c.requires.at c.requires.kind c.number_of-number.result c.number_of-number.ensures.is
+    c.number_of-number.ensures.some c.number_of-number.ensures.few
+    (omega (arith, c.in_default.ensures.room, c.unit_limit.ensures)))

@@ -13,7 +13,8 @@ turns-init g c =
       answer =
           ap (λ (w : Walked). in_all (g.C.Callouts.seen c.args.calls.now) (told none_met w))
           (sym (starts (g.S.Searchable.searched c.args.on.now) (g.met.S.Searchable.sound c.args.on.now) c.args.place));
-      valid = starts_valid (g.S.Searchable.searched c.args.on.now) (g.met.S.Searchable.sound c.args.on.now) c.args.place c.requires.place;
+      valid = starts_valid (g.S.Searchable.searched c.args.on.now) (g.met.S.Searchable.sound c.args.on.now)
+          c.args.place c.requires.place;
       rule = λ block. refl;
       bank = c.requires.bank;
       no_less = omega arith;

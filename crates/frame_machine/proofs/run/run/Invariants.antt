@@ -13,9 +13,11 @@ use Rattle.frame_machine.proofs.run.run.Given as goal
 
 abbrev pub invariant-turns : goal.invariant-turns
 invariant-turns g l = record {
-  answer : in_all (g.C.Callouts.seen l.fn.calls) (told none_met (place_answer (g.S.Searchable.searched l.on).setting l.place))
+  answer : in_all (g.C.Callouts.seen l.fn.calls)
+      (told none_met (place_answer (g.S.Searchable.searched l.on).setting l.place))
       ≡ in_all (g.C.Callouts.seen l.calls)
-      (tells (g.S.Searchable.searched l.on).setting l.spot (ahead (g.S.Searchable.searched l.on) (conf l.next l.spot (entries l.store.records) l.registers)));
+      (tells (g.S.Searchable.searched l.on).setting l.spot
+      (ahead (g.S.Searchable.searched l.on) (conf l.next l.spot (entries l.store.records) l.registers)));
   valid : IsValid (g.S.Searchable.searched l.on) (conf l.next l.spot (entries l.store.records) l.registers);
   rule : (block : Block) → g.C.Callouts.answers l.calls block ≡ g.C.Callouts.answers l.fn.calls block;
   bank : length l.bank ≡ (g.S.Searchable.searched l.on).setting.groups;
@@ -24,4 +26,5 @@ invariant-turns g l = record {
 }
 
 abbrev pub decreases-turns : goal.decreases-turns
-decreases-turns g l = size (ahead (g.S.Searchable.searched l.on) (conf l.next l.spot (entries l.store.records) l.registers))
+decreases-turns g l =
+    size (ahead (g.S.Searchable.searched l.on) (conf l.next l.spot (entries l.store.records) l.registers))

@@ -7,7 +7,8 @@ use Rattle.frame_parts.proofs.passing.pass_branches.Given as goal
 
 abbrev pub invariant-branches : goal.invariant-branches
 invariant-branches g l = record {
-  reached : Reaches (g.S.Searchable.searched l.on) (conf (Branch l.at l.index) l.fn.spot (entries l.store.records) l.registers)
+  reached : Reaches (g.S.Searchable.searched l.on)
+      (conf (Branch l.at l.index) l.fn.spot (entries l.store.records) l.registers)
       (conf (Branch l.at l.to) l.spot (entries l.store.records) l.registers);
   units : l.spot.units ≡ l.fn.spot.units;
 }

@@ -7,7 +7,8 @@ use Rattle.frame_parts.proofs.passing.pass_more.Given as goal
 
 abbrev pub invariant-runs : goal.invariant-runs
 invariant-runs g l = record {
-  reached : Reaches (g.S.Searchable.searched l.on) (conf (More l.at l.count l.last) l.fn.spot (entries l.store.records) l.registers)
+  reached : Reaches (g.S.Searchable.searched l.on)
+      (conf (More l.at l.count l.last) l.fn.spot (entries l.store.records) l.registers)
       (conf (More l.at l.run.count l.run.to) l.spot (entries l.store.records) l.registers);
   units : l.spot.units ≡ l.fn.spot.units;
   frame : l.spot.frame ≡ l.fn.spot.frame;

@@ -10,11 +10,14 @@ pub returns-clause-body : goal.returns-clause-body
 returns-clause-body g c =
     let ground = g.S.Searchable.searched c.args.on.now in
     let node = c.node.result.now in
-    All-head (IsPart ground) c.in-Repeat.body [] (subst (λ m. All (IsPart ground) (kids_of m)) c.in-Repeat.is (kid_parts ground c.args.part node c.requires.inside c.node.ensures))
+    All-head (IsPart ground) c.in-Repeat.body []
+    (subst (λ m. All (IsPart ground) (kids_of m)) c.in-Repeat.is
+    (kid_parts ground c.args.part node c.requires.inside c.node.ensures))
 
 pub returns-clause-framed : goal.returns-clause-framed
 returns-clause-framed g c =
     let ground = g.S.Searchable.searched c.args.on.now in
     let outer : Option ℕ = ground.branch c.args.part in
     All-head (λ k. ground.branch k ≡ None) c.in-Repeat.body []
-    (subst (λ m. All (λ k. ground.branch k ≡ branch_child m outer k) (kids_of m)) c.in-Repeat.is c.node.ensures.branched)
+    (subst (λ m. All (λ k. ground.branch k ≡ branch_child m outer k) (kids_of m)) c.in-Repeat.is
+    c.node.ensures.branched)

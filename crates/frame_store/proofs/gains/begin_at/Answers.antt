@@ -11,5 +11,6 @@ returns-clause-begun c =
       least = c.requires.within;
       ordered = omega arith;
       most = omega arith;
-      gathered = subst (λ (vs : Values). IsGathered vs (stretch (length xs) (length xs) xs)) (sym unset) (gathered_begin xs _);
+      gathered = subst (λ (vs : Values). IsGathered vs (stretch (length xs) (length xs) xs)) (sym unset)
+          (gathered_begin xs _);
     }

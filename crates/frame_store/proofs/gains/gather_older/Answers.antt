@@ -8,15 +8,31 @@ use Rattle.frame_store.proofs.gains.gather_older.Goals as goal
 -- what a read past the end would give
 abbrev no_record : Record
 no_record =
-    record { kind = 0; slot = 0; node = 0; link = 0; mark = 0; passed = 0; units = 0; count = 0; place = 0; keep = 0; early = 0; from = 0; to = 0 }
+    record {
+      kind = 0;
+      slot = 0;
+      node = 0;
+      link = 0;
+      mark = 0;
+      passed = 0;
+      units = 0;
+      count = 0;
+      place = 0;
+      keep = 0;
+      early = 0;
+      from = 0;
+      to = 0;
+    }
 
 pub records-preserved : goal.records-preserved
 records-preserved c =
     let xs = c.args.records.now in
     let r = get_or xs (c.records.i - 1) no_record in
     record {
-      count = ap length c.take_older.ensures ∙ length-older_gain (entry_of r) c.records.values ∙ c.records.invariant.count;
+      count = ap length c.take_older.ensures ∙ length-older_gain (entry_of r) c.records.values
+          ∙ c.records.invariant.count;
       gathered = λ es h.
           subst (λ vs. IsGathered vs (es ++ entries (reverse (drop (c.records.i - 1) xs)))) (sym c.take_older.ensures)
-          (older_step xs c.records.values es no_record c.records.i (omega arith) (omega arith) (c.records.invariant.gathered es h));
+          (older_step xs c.records.values es no_record c.records.i (omega arith) (omega arith)
+          (c.records.invariant.gathered es h));
     }

@@ -6,5 +6,6 @@ use Rattle.frame_store.proofs.gains.gather_older.Given as goal
 abbrev pub invariant-records : goal.invariant-records
 invariant-records l = record {
   count : length l.values ≡ length l.fn.values;
-  gathered : (es : List Entry) → IsGathered l.fn.values es → IsGathered l.values (es ++ entries (reverse (drop l.i l.records)));
+  gathered : (es : List Entry) → IsGathered l.fn.values es
+      → IsGathered l.values (es ++ entries (reverse (drop l.i l.records)));
 }

@@ -11,8 +11,10 @@ registers-preserved c =
     elim c.match-values-i.branch [
       | in-Some w ↦
           w.registers-is ∙ ap (placed (Some w.in-Some.value) c.registers.i) c.registers.invariant
-          ∙ overlaid_more c.args.values.now c.args.registers.now c.registers.i (Some w.in-Some.value) (omega (arith, c.requires.same)) (omega arith) w.in-Some.is
+          ∙ overlaid_more c.args.values.now c.args.registers.now c.registers.i (Some w.in-Some.value)
+          (omega (arith, c.requires.same)) (omega arith) w.in-Some.is
       | in_default w ↦
           w.registers-is ∙ c.registers.invariant
-          ∙ overlaid_more c.args.values.now c.args.registers.now c.registers.i None (omega (arith, c.requires.same)) (omega arith) w.in_default.is
+          ∙ overlaid_more c.args.values.now c.args.registers.now c.registers.i None (omega (arith, c.requires.same))
+          (omega arith) w.in_default.is
     ]

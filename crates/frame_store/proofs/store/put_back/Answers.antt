@@ -9,12 +9,27 @@ use Rattle.frame_store.proofs.store.put_back.Goals as goal
 -- what a read past the end would give
 abbrev no_record : Record
 no_record =
-    record { kind = 0; slot = 0; node = 0; link = 0; mark = 0; passed = 0; units = 0; count = 0; place = 0; keep = 0; early = 0; from = 0; to = 0 }
+    record {
+      kind = 0;
+      slot = 0;
+      node = 0;
+      link = 0;
+      mark = 0;
+      passed = 0;
+      units = 0;
+      count = 0;
+      place = 0;
+      keep = 0;
+      early = 0;
+      from = 0;
+      to = 0;
+    }
 
 pub put_back_one-requires : goal.put_back_one-requires
 put_back_one-requires c =
     let next = entries-take c.records.i c.args.records.now no_record (omega arith) (omega arith) in
-    All-head (HasSlot c.records.registers) _ _ (subst (λ (es : List Entry). All (HasSlot c.records.registers) es) next c.records.invariant.slots)
+    All-head (HasSlot c.records.registers) _ _
+    (subst (λ (es : List Entry). All (HasSlot c.records.registers) es) next c.records.invariant.slots)
 
 pub records-preserved : goal.records-preserved
 records-preserved c =
@@ -23,12 +38,14 @@ records-preserved c =
     let e = entry_of (get_or xs (c.records.i - 1) no_record) in
     let next = entries-take c.records.i xs no_record (omega arith) (omega arith) in
     let rest = entries (reverse (take (c.records.i - 1) xs)) in
-    let slots = All-tail (HasSlot regs) e rest (subst (λ (es : List Entry). All (HasSlot regs) es) next c.records.invariant.slots) in
+    let slots = All-tail (HasSlot regs) e rest
+    (subst (λ (es : List Entry). All (HasSlot regs) es) next c.records.invariant.slots) in
     record {
       back =
           ap (undone rest) c.put_back_one.ensures ∙ sym (undone-cons e rest regs)
           ∙ ap (λ (es : List Entry). undone es regs) (sym next) ∙ c.records.invariant.back;
-      slots = AllHaveSlots-same regs c.put_back_one.new.registers rest (ap length c.put_back_one.ensures ∙ length-taken_back e regs) slots;
+      slots = AllHaveSlots-same regs c.put_back_one.new.registers rest
+          (ap length c.put_back_one.ensures ∙ length-taken_back e regs) slots;
     }
 
 pub returns : goal.returns

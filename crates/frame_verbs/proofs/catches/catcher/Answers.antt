@@ -7,18 +7,22 @@ use Rattle.frame_verbs.proofs.catches.catcher.Goals as goal
 
 pub returns-then-is_catching : goal.returns-then-is_catching
 returns-then-is_catching c =
-    sym (catcher_found c.args.store.now.records c.requires.nested (c.frames.height - 1) _ c.get.ensures c.frames.height (omega arith) (sym c.if-is_catching.ensures))
+    sym (catcher_found c.args.store.now.records c.requires.nested (c.frames.height - 1) _ c.get.ensures
+    c.frames.height (omega arith) (sym c.if-is_catching.ensures))
     ∙ c.frames.invariant.same
 
 pub frames-smaller : goal.frames-smaller
-frames-smaller c = let low = (frame_at c.args.store.now.records (c.frames.height - 1) _ c.requires.nested c.get.ensures).low in omega (arith, low)
+frames-smaller c = let low =
+    (frame_at c.args.store.now.records (c.frames.height - 1) _ c.requires.nested c.get.ensures).low in
+    omega (arith, low)
 
 pub frames-preserved : goal.frames-preserved
 frames-preserved c =
     let low = (frame_at c.args.store.now.records (c.frames.height - 1) _ c.requires.nested c.get.ensures).low in
     record {
       same =
-          sym (catcher_outer c.args.store.now.records c.requires.nested (c.frames.height - 1) _ c.get.ensures c.frames.height (omega arith) (sym c.if-is_catching.ensures))
+          sym (catcher_outer c.args.store.now.records c.requires.nested (c.frames.height - 1) _ c.get.ensures
+          c.frames.height (omega arith) (sym c.if-is_catching.ensures))
           ∙ c.frames.invariant.same;
       within = omega (arith, low, c.frames.invariant.within);
     }

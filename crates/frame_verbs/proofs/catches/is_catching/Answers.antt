@@ -1,4 +1,5 @@
-use Rattle.frame_verbs.proofs.CatchTurns.{catches_denial, catches_look_test, catches_denial_test, catches_call, catches_not}
+use Rattle.frame_verbs.proofs.CatchTurns.{catches_denial, catches_look_test, catches_denial_test, catches_call}
+use Rattle.frame_verbs.proofs.CatchTurns.{catches_not}
 use Rattle.frame_verbs.proofs.catches.is_catching.Goals as goal
 
 pub returns-then-frame-eq-KIND_DENIAL_OPEN : goal.returns-then-frame-eq-KIND_DENIAL_OPEN
@@ -15,4 +16,5 @@ returns-then-frame-eq-KIND_CALL_OPEN c = catches_call c.args.frame.now c.if-fram
 
 pub returns : goal.returns
 returns c =
-    catches_not c.args.frame.now c.if-frame-eq-KIND_DENIAL_OPEN.false c.if-frame-eq-KIND_LOOK_TEST.false c.if-frame-eq-KIND_DENIAL_TEST.false c.if-frame-eq-KIND_CALL_OPEN.false
+    catches_not c.args.frame.now c.if-frame-eq-KIND_DENIAL_OPEN.false c.if-frame-eq-KIND_LOOK_TEST.false
+    c.if-frame-eq-KIND_DENIAL_TEST.false c.if-frame-eq-KIND_CALL_OPEN.false

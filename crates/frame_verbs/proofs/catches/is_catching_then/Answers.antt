@@ -9,4 +9,5 @@ pub returns-then-frame-eq-KIND_LOOK_ALL_OPEN : goal.returns-then-frame-eq-KIND_L
 returns-then-frame-eq-KIND_LOOK_ALL_OPEN c = catches_look_all c.args.frame.now c.if-frame-eq-KIND_LOOK_ALL_OPEN.true
 
 pub returns : goal.returns
-returns c = c.is_catching.ensures ∙ catches_then c.args.frame.now c.if-frame-eq-KIND_LOOK_OPEN.false c.if-frame-eq-KIND_LOOK_ALL_OPEN.false
+returns c = c.is_catching.ensures ∙ catches_then c.args.frame.now c.if-frame-eq-KIND_LOOK_OPEN.false
+    c.if-frame-eq-KIND_LOOK_ALL_OPEN.false

@@ -8,7 +8,9 @@ use Rattle.frame_verbs.proofs.skips.last_passed.Goals as goal
 pub returns-then-event-ne-KIND_MARK_PASSED : goal.returns-then-event-ne-KIND_MARK_PASSED
 returns-then-event-ne-KIND_MARK_PASSED g c =
     let s = (g.S.Searchable.searched c.args.on.now).setting in
-    sym (ap (skip_to s c.args.name) (heard_other (g.S.Searchable.searched c.args.on.now) c.args.store.now.records c.requires.heard c.names.height (c.names.height - 1) (omega arith) _ c.get-event.ensures c.if-event-ne-KIND_MARK_PASSED.true))
+    sym (ap (skip_to s c.args.name) (heard_other (g.S.Searchable.searched c.args.on.now) c.args.store.now.records
+    c.requires.heard c.names.height (c.names.height - 1) (omega arith) _ c.get-event.ensures
+    c.if-event-ne-KIND_MARK_PASSED.true))
     ∙ c.names.invariant.same
 
 pub returns-then-same_name : goal.returns-then-same_name
@@ -16,23 +18,32 @@ returns-then-same_name g c =
     let s = (g.S.Searchable.searched c.args.on.now).setting in
     let stack = entries c.args.store.now.records in
     let r = c.get-event.result.now in
-    skip_here s c.args.name (r.mark - 1) r.place (heard stack r.passed) c.saturating_sub.result (omega (arith, c.saturating_sub.ensures)) c.if-same_name.ensures
-    ∙ sym (ap (skip_to s c.args.name) (heard_name (g.S.Searchable.searched c.args.on.now) c.args.store.now.records c.requires.heard c.names.height (c.names.height - 1) (omega arith) _ c.get-event.ensures c.if-event-ne-KIND_MARK_PASSED.false))
+    skip_here s c.args.name (r.mark - 1) r.place (heard stack r.passed) c.saturating_sub.result
+    (omega (arith, c.saturating_sub.ensures)) c.if-same_name.ensures
+    ∙ sym (ap (skip_to s c.args.name) (heard_name (g.S.Searchable.searched c.args.on.now) c.args.store.now.records
+    c.requires.heard c.names.height (c.names.height - 1) (omega arith) _ c.get-event.ensures
+    c.if-event-ne-KIND_MARK_PASSED.false))
     ∙ c.names.invariant.same
 
 pub names-smaller : goal.names-smaller
-names-smaller g c = heard_lower (g.S.Searchable.searched c.args.on.now) c.args.store.now.records c.requires.heard c.names.height (c.names.height - 1) (omega arith) _ c.get-event.ensures c.if-event-ne-KIND_MARK_PASSED.false
+names-smaller g c = heard_lower (g.S.Searchable.searched c.args.on.now) c.args.store.now.records c.requires.heard
+    c.names.height (c.names.height - 1) (omega arith) _ c.get-event.ensures c.if-event-ne-KIND_MARK_PASSED.false
 
 pub names-preserved : goal.names-preserved
 names-preserved g c =
     let s = (g.S.Searchable.searched c.args.on.now).setting in
     let stack = entries c.args.store.now.records in
     let r = c.get-event.result.now in
-    let low = heard_lower (g.S.Searchable.searched c.args.on.now) c.args.store.now.records c.requires.heard c.names.height (c.names.height - 1) (omega arith) _ c.get-event.ensures c.if-event-ne-KIND_MARK_PASSED.false in
+    let low = heard_lower (g.S.Searchable.searched c.args.on.now) c.args.store.now.records c.requires.heard
+    c.names.height (c.names.height - 1) (omega arith) _ c.get-event.ensures c.if-event-ne-KIND_MARK_PASSED.false
+    in
     record {
       same =
-          skip_before s c.args.name (r.mark - 1) r.place (heard stack r.passed) c.saturating_sub.result (omega (arith, c.saturating_sub.ensures)) c.if-same_name.ensures
-          ∙ sym (ap (skip_to s c.args.name) (heard_name (g.S.Searchable.searched c.args.on.now) c.args.store.now.records c.requires.heard c.names.height (c.names.height - 1) (omega arith) _ c.get-event.ensures c.if-event-ne-KIND_MARK_PASSED.false))
+          skip_before s c.args.name (r.mark - 1) r.place (heard stack r.passed) c.saturating_sub.result
+          (omega (arith, c.saturating_sub.ensures)) c.if-same_name.ensures
+          ∙ sym (ap (skip_to s c.args.name) (heard_name (g.S.Searchable.searched c.args.on.now)
+          c.args.store.now.records c.requires.heard c.names.height (c.names.height - 1) (omega arith) _
+          c.get-event.ensures c.if-event-ne-KIND_MARK_PASSED.false))
           ∙ c.names.invariant.same;
       within = omega (arith, low, c.names.invariant.within);
     }

@@ -8,12 +8,21 @@ use Rattle.frame_verbs.proofs.verbs.pass_fail.Goals as goal
 
 pub returns-in_default-clause-on : goal.returns-in_default-clause-on
 returns-in_default-clause-on g c =
-    turn_fail (g.S.Searchable.searched c.args.on.now) (g.met.S.Searchable.sound c.args.on.now) c.args.at c.args.spot.now (entries c.args.store.now.records) c.args.registers.now c.requires.valid (subst (λ o. IsNode (g.S.Searchable.searched c.args.on.now) c.args.at (node.VerbNode (verb.Fail o))) (none_of c.args.name c.in_default.not-Some) c.requires.node)
+    turn_fail (g.S.Searchable.searched c.args.on.now) (g.met.S.Searchable.sound c.args.on.now) c.args.at
+    c.args.spot.now (entries c.args.store.now.records) c.args.registers.now c.requires.valid
+    (subst (λ o. IsNode (g.S.Searchable.searched c.args.on.now) c.args.at (node.VerbNode (verb.Fail o)))
+    (none_of c.args.name c.in_default.not-Some) c.requires.node)
 
 pub returns-then-spot-unit_limit-clause-stop : goal.returns-then-spot-unit_limit-clause-stop
 returns-then-spot-unit_limit-clause-stop g c =
-    stop_fail (g.S.Searchable.searched c.args.on.now) (g.met.S.Searchable.sound c.args.on.now) c.args.at c.args.spot.now (entries c.args.store.now.records) c.args.registers.now c.requires.valid _ (subst (λ o. IsNode (g.S.Searchable.searched c.args.on.now) c.args.at (node.VerbNode (verb.Fail o))) c.in-Some.is c.requires.node) (omega (arith, c.if-spot-unit_limit.true, c.unit_limit.ensures))
+    stop_fail (g.S.Searchable.searched c.args.on.now) (g.met.S.Searchable.sound c.args.on.now) c.args.at
+    c.args.spot.now (entries c.args.store.now.records) c.args.registers.now c.requires.valid _
+    (subst (λ o. IsNode (g.S.Searchable.searched c.args.on.now) c.args.at (node.VerbNode (verb.Fail o)))
+    c.in-Some.is c.requires.node) (omega (arith, c.if-spot-unit_limit.true, c.unit_limit.ensures))
 
 pub returns-clause-on : goal.returns-clause-on
 returns-clause-on g c =
-    turn_fail_named (g.S.Searchable.searched c.args.on.now) (g.met.S.Searchable.sound c.args.on.now) c.args.at c.args.spot.now (entries c.args.store.now.records) c.args.registers.now c.requires.valid _ (subst (λ o. IsNode (g.S.Searchable.searched c.args.on.now) c.args.at (node.VerbNode (verb.Fail o))) c.in-Some.is c.requires.node) (omega (arith, c.if-spot-unit_limit.false, c.unit_limit.ensures))
+    turn_fail_named (g.S.Searchable.searched c.args.on.now) (g.met.S.Searchable.sound c.args.on.now) c.args.at
+    c.args.spot.now (entries c.args.store.now.records) c.args.registers.now c.requires.valid _
+    (subst (λ o. IsNode (g.S.Searchable.searched c.args.on.now) c.args.at (node.VerbNode (verb.Fail o)))
+    c.in-Some.is c.requires.node) (omega (arith, c.if-spot-unit_limit.false, c.unit_limit.ensures))

@@ -14,5 +14,6 @@ returns-in_default-clause-pushed c =
 
 pub returns-clause-pushed : goal.returns-clause-pushed
 returns-clause-pushed c =
-    ap entries (c.in_default-hold.ensures.pushed ∙ ap (λ (r : Record). r ∷ c.args.store.now.records) c.record-event-2.ensures)
+    ap entries (c.in_default-hold.ensures.pushed ∙ ap (λ (r : Record). r ∷ c.args.store.now.records)
+    c.record-event-2.ensures)
     ∙ named_pushed c.args.spot.now c.args.at c.args.name _ c.in-Some.is c.args.store.now.records

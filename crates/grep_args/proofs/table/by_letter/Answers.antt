@@ -87,4 +87,5 @@ pub returns-in-120-clause-option : goal.returns-in-120-clause-option
 returns-in-120-clause-option c = ap by_letter (sym c.in-120.is)
 
 pub returns-in_default-clause-option : goal.returns-in_default-clause-option
-returns-in_default-clause-option c = sym (ap (option_map (λ (r : Row). r.option)) (letter_absent c.args.letter table assumption))
+returns-in_default-clause-option c =
+    sym (ap (option_map (λ (r : Row). r.option)) (letter_absent c.args.letter table assumption))

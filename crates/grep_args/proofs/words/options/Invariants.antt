@@ -4,4 +4,5 @@ use Rattle.grep_args.specs.Words.{options}
 use Rattle.grep_args.proofs.words.options.Given as goal
 
 abbrev pub invariant-loop-n : goal.invariant-loop-n
-invariant-loop-n l = options (map string_bytes (drop l.n l.words)) l.n l.awaited l.plan ≡ options (map string_bytes l.words) 0 None l.initial.plan
+invariant-loop-n l = options (map string_bytes (drop l.n l.words)) l.n l.awaited l.plan ≡ options
+    (map string_bytes l.words) 0 None l.initial.plan

@@ -15,7 +15,8 @@ returns-in-Ok g c =
     let new = c.front.follows.lender-at-none in
     let now = g.S.Source.tells c.args.source.now in
     let after = g.S.Source.tells c.front.new.source in
-    treats-shown c.args.plan.now c.treatment_by.result c.has_zero.result now after f new c.in-Ok.first.now c.requires.new
+    treats-shown c.args.plan.now c.treatment_by.result c.has_zero.result now after f new c.in-Ok.first.now
+    c.requires.new
     (ap (looks_first c.args.plan.now) (sym c.requires.mode) ∙ sym c.looks_first.ensures ∙ c.if-not-looks_first.false)
     (subst (Fronts f new now after) c.in-Ok.is c.front.follows.holds-at-none) c.has_zero.ensures c.treatment_by.ensures
 
@@ -24,5 +25,8 @@ returns-in-Err g c =
     let f = c.args.feed.now in
     let new = c.front.follows.lender-at-none in
     let now = g.S.Source.tells c.args.source.now in
-    let after = g.S.Source.tells c.front.new.source in
-    (refl, hears-lacks now after f new c.requires.new (subst (Fronts f new now after) c.in-Err.is c.front.follows.holds-at-none))
+    let after = g.S.Source.tells c.front.new.source in (
+      refl,
+      hears-lacks now after f new c.requires.new
+          (subst (Fronts f new now after) c.in-Err.is c.front.follows.holds-at-none),
+    )

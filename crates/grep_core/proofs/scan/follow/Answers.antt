@@ -6,20 +6,24 @@ use Rattle.grep_output.specs.Shows.{lines_after}
 use Rattle.grep_core.specs.Work.{work_of}
 use Rattle.grep_core.specs.Follows.{Follows, past}
 use Rattle.line_feed.proofs.Given.{live-gives}
-use Rattle.grep_core.proofs.ScansFollow.{after-lines, after-others, following-none, following-more, follows-ends, follows-stops, follows-all, following-sent, follows-unsent}
+use Rattle.grep_core.proofs.ScansFollow.{after-lines, after-others, following-none, following-more, follows-ends}
+use Rattle.grep_core.proofs.ScansFollow.{follows-stops, follows-all, following-sent, follows-unsent}
 use Rattle.grep_core.proofs.scan.follow.Goals as goal
 
 pub returns-then-ne : goal.returns-then-ne
 returns-then-ne g c = λ before treated given stood kind max near whole.
     let job = c.args.job.now in
     let other : job.show ≢ Lines = λ is. (let e = rw is at c.if-ne.ensures in cc) in
-    follows-all (work_of job) treated before given _ _ _ _ _ (following-none (work_of job) treated before given _ _ _ stood kind max near whole) (sym (after-others job.show job.plan.now.after_context other))
+    follows-all (work_of job) treated before given _ _ _ _ _
+    (following-none (work_of job) treated before given _ _ _ stood kind max near whole)
+    (sym (after-others job.show job.plan.now.after_context other))
 
 pub line-init : goal.line-init
 line-init g c = record {
   live = c.requires;
   within = omega arith;
-  following = λ before treated given stood kind max near whole. following-none (work_of c.args.job.now) treated before given _ _ _ stood kind max near whole;
+  following = λ before treated given stood kind max near whole. following-none (work_of c.args.job.now) treated before
+      given _ _ _ stood kind max near whole;
 }
 
 pub follow_one-requires : goal.follow_one-requires
@@ -34,8 +38,12 @@ returns-in_err-ended g c = λ before treated given stood kind max near whole.
     let after = after-lines job.show job.plan.now.after_context lines in
     let less = c.line-test.true in
     let few : c.line.counter < lines_after job.show job.plan.now.after_context = omega arith in
-    subst (Follows (work_of job) (past before treated given) (g.S.Source.tells c.follow_one.new.source) (g.O.Sink.tells c.args.out.now) (g.O.Sink.tells c.follow_one.new.out)) (sym same)
-    (follows-stops (work_of job) treated before given _ _ _ _ _ _ _ _ (following-sent (work_of job) treated before given _ _ _ _ _ _ (c.line.invariant.following before treated given stood kind max near whole) _ c.send_on.ensures.same c.in_ok-send_on.ensures.sent) stop few c.in_err-ended.ensures)
+    subst (Follows (work_of job) (past before treated given) (g.S.Source.tells c.follow_one.new.source)
+    (g.O.Sink.tells c.args.out.now) (g.O.Sink.tells c.follow_one.new.out)) (sym same)
+    (follows-stops (work_of job) treated before given _ _ _ _ _ _ _ _
+    (following-sent (work_of job) treated before given _ _ _ _ _ _
+    (c.line.invariant.following before treated given stood kind max near whole) _ c.send_on.ensures.same
+    c.in_ok-send_on.ensures.sent) stop few c.in_err-ended.ensures)
 
 pub returns-in-Some : goal.returns-in-Some
 returns-in-Some g c = λ before treated given stood kind max near whole.
@@ -45,7 +53,10 @@ returns-in-Some g c = λ before treated given stood kind max near whole.
     let less = c.line-test.true in
     let few : c.line.counter < lines_after job.show job.plan.now.after_context = omega arith in
     let ends = rw c.in-Some.is at c.in_ok-ended.ensures in
-    follows-ends (work_of job) treated before given _ _ _ _ _ _ _ _ (following-sent (work_of job) treated before given _ _ _ _ _ _ (c.line.invariant.following before treated given stood kind max near whole) _ c.send_on.ensures.same c.in_ok-send_on.ensures.sent) c.in-Some.ended few ends
+    follows-ends (work_of job) treated before given _ _ _ _ _ _ _ _
+    (following-sent (work_of job) treated before given _ _ _ _ _ _
+    (c.line.invariant.following before treated given stood kind max near whole) _ c.send_on.ensures.same
+    c.in_ok-send_on.ensures.sent) c.in-Some.ended few ends
 
 pub line-preserved : goal.line-preserved
 line-preserved g c =
@@ -55,7 +66,10 @@ line-preserved g c =
     record {
       live = live-gives _ _ _ _ shows.row shows.gives;
       within = let less = c.line-test.true in omega arith;
-      following = λ before treated given stood kind max near whole. following-more (work_of job) treated before given _ _ _ _ _ _ _ _ (following-sent (work_of job) treated before given _ _ _ _ _ _ (c.line.invariant.following before treated given stood kind max near whole) _ c.send_on.ensures.same c.in_ok-send_on.ensures.sent) shows;
+      following = λ before treated given stood kind max near whole. following-more (work_of job) treated before given
+          _ _ _ _ _ _ _ _ (following-sent (work_of job) treated before given _ _ _ _ _ _
+          (c.line.invariant.following before treated given stood kind max near whole) _ c.send_on.ensures.same
+          c.in_ok-send_on.ensures.sent) shows;
     }
 
 pub returns : goal.returns
@@ -66,7 +80,8 @@ returns g c = λ before treated given stood kind max near whole.
     let most = c.line-test.false in
     let within = c.line.invariant.within in
     let all : c.line.counter ≡ lines_after job.show job.plan.now.after_context = omega arith in
-    follows-all (work_of job) treated before given _ _ _ _ _ (c.line.invariant.following before treated given stood kind max near whole) all
+    follows-all (work_of job) treated before given _ _ _ _ _
+    (c.line.invariant.following before treated given stood kind max near whole) all
 
 pub returns-in_err-send_on : goal.returns-in_err-send_on
 returns-in_err-send_on g c = λ before treated given stood kind max near whole.
@@ -77,5 +92,8 @@ returns-in_err-send_on g c = λ before treated given stood kind max near whole.
     let after = after-lines job.show job.plan.now.after_context lines in
     let less = c.line-test.true in
     let few : c.line.counter < lines_after job.show job.plan.now.after_context = omega arith in
-    subst (Follows (work_of job) (past before treated given) (g.S.Source.tells c.line.source) (g.O.Sink.tells c.args.out.now) (g.O.Sink.tells c.send_on.new.out)) (sym same)
-    (follows-unsent (work_of job) treated before given _ _ _ _ _ _ (c.line.invariant.following before treated given stood kind max near whole) stop few c.in_err-send_on.ensures.sent)
+    subst (Follows (work_of job) (past before treated given) (g.S.Source.tells c.line.source)
+    (g.O.Sink.tells c.args.out.now) (g.O.Sink.tells c.send_on.new.out)) (sym same)
+    (follows-unsent (work_of job) treated before given _ _ _ _ _ _
+    (c.line.invariant.following before treated given stood kind max near whole) stop few
+    c.in_err-send_on.ensures.sent)

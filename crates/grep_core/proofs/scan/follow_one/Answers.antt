@@ -19,12 +19,15 @@ returns-in_err-write_line-in-Ok-Some g c =
     let e = c.in_err-write_line-in-Ok-Some.field-0.0 in
     let is : c.from_residual.result ≡ Err (stop_of e) = search rules in
     let gives : Gives f new now after row =
-    subst (λ o. Answers f new now after (Ok o)) c.in-Ok-Some.field-0-is (subst (Answers f new now after) c.in-Ok-Some.is c.next.follows.holds-at-none) in
-    subst (FollowsOne (work_of job) (fed f now) (fed new after) (g.O.Sink.tells c.args.out.now) (g.O.Sink.tells c.write_line.new.out)) (sym is)
+    subst (λ o. Answers f new now after (Ok o)) c.in-Ok-Some.field-0-is
+    (subst (Answers f new now after) c.in-Ok-Some.is c.next.follows.holds-at-none) in
+    subst (FollowsOne (work_of job) (fed f now) (fed new after) (g.O.Sink.tells c.args.out.now)
+    (g.O.Sink.tells c.write_line.new.out)) (sym is)
     (inl (record {
       row = row;
       gives = gives;
-      wrote = halts-of _ _ _ e (c.in_err-write_line-in-Ok-Some.ensures (record { row = row; is_selected = false; begins_group = false }) refl refl);
+      wrote = halts-of _ _ _ e (c.in_err-write_line-in-Ok-Some.ensures
+          (record { row = row; is_selected = false; begins_group = false }) refl refl);
     }))
 
 pub returns-in_ok-write_line-in-Ok-Some : goal.returns-in_ok-write_line-in-Ok-Some
@@ -36,6 +39,8 @@ returns-in_ok-write_line-in-Ok-Some g c =
     let row = row_of c.in-Ok-Some.line in
     record {
       row = row;
-      gives = subst (λ o. Answers f new now after (Ok o)) c.in-Ok-Some.field-0-is (subst (Answers f new now after) c.in-Ok-Some.is c.next.follows.holds-at-none);
-      wrote = wrote-of _ _ _ _ (c.in_ok-write_line-in-Ok-Some.ensures (record { row = row; is_selected = false; begins_group = false }) refl refl);
+      gives = subst (λ o. Answers f new now after (Ok o)) c.in-Ok-Some.field-0-is
+          (subst (Answers f new now after) c.in-Ok-Some.is c.next.follows.holds-at-none);
+      wrote = wrote-of _ _ _ _ (c.in_ok-write_line-in-Ok-Some.ensures
+          (record { row = row; is_selected = false; begins_group = false }) refl refl);
     }

@@ -15,8 +15,11 @@ line-init c = record {
 pub give_line-requires-clause-holds : goal.give_line-requires-clause-holds
 give_line-requires-clause-holds c =
     let held = c.requires.holds in
-    let more = c.line-test.true in
-    (held.0 - c.line.bytes, kept-one _ _ _ (kept-next _ _ _ _ held.0 c.args.lines c.line.counter c.line.bytes more (c.line.invariant.kept held.0 held.1)))
+    let more = c.line-test.true in (
+      held.0 - c.line.bytes,
+      kept-one _ _ _ (kept-next _ _ _ _ held.0 c.args.lines c.line.counter c.line.bytes more
+          (c.line.invariant.kept held.0 held.1)),
+    )
 
 pub overflow_add-bytes-in-line : goal.overflow_add-bytes-in-line
 overflow_add-bytes-in-line c =
@@ -24,7 +27,9 @@ overflow_add-bytes-in-line c =
     let more = c.line-test.true in
     let row = row_of c.given_line-line.result in
     let little =
-    (kept-little c.args.feed.now c.line.feed c.give_line.new.self c.args.earlier.now c.line.earlier row held.0 c.args.lines c.line.counter c.line.bytes _ held.1 c.requires.max c.requires.longest more c.give_line.ensures c.given_line-line.ensures
+    (kept-little c.args.feed.now c.line.feed c.give_line.new.self c.args.earlier.now c.line.earlier row held.0
+    c.args.lines c.line.counter c.line.bytes _ held.1 c.requires.max c.requires.longest more c.give_line.ensures
+    c.given_line-line.ensures
     (c.line.invariant.kept held.0 held.1)).little in
     omega (arith, little)
 
@@ -33,7 +38,9 @@ push-requires c =
     let held = c.requires.holds in
     let more = c.line-test.true in
     let row = row_of c.given_line-line.result in
-    (kept-little c.args.feed.now c.line.feed c.give_line.new.self c.args.earlier.now c.line.earlier row held.0 c.args.lines c.line.counter c.line.bytes _ held.1 c.requires.max c.requires.longest more c.give_line.ensures c.given_line-line.ensures
+    (kept-little c.args.feed.now c.line.feed c.give_line.new.self c.args.earlier.now c.line.earlier row held.0
+    c.args.lines c.line.counter c.line.bytes _ held.1 c.requires.max c.requires.longest more c.give_line.ensures
+    c.given_line-line.ensures
     (c.line.invariant.kept held.0 held.1)).short
 
 pub line-preserved : goal.line-preserved
@@ -44,7 +51,9 @@ line-preserved c =
       live = live-gives c.line.feed c.give_line.new.self any any _ (c.give_line.ensures.gives any);
       within = omega arith;
       kept = λ within holds.
-          kept-step c.args.feed.now c.line.feed c.give_line.new.self c.args.earlier.now c.line.earlier c.push.new.self row within c.args.lines c.line.counter c.line.bytes _ more c.give_line.ensures c.given_line-line.ensures c.in_ok-push.ensures
+          kept-step c.args.feed.now c.line.feed c.give_line.new.self c.args.earlier.now c.line.earlier c.push.new.self
+          row within c.args.lines c.line.counter c.line.bytes _ more c.give_line.ensures c.given_line-line.ensures
+          c.in_ok-push.ensures
           (omega arith) (c.line.invariant.kept within holds);
     }
 
@@ -54,4 +63,5 @@ returns c = λ within holds.
     let most = c.line-test.false in
     let low = c.line.invariant.within in
     let all : c.line.counter ≡ c.args.lines = omega arith in
-    subst (λ n. KeepsLines c.args.feed.now c.line.feed c.args.earlier.now c.line.earlier within n c.line.bytes) all so.keeps
+    subst (λ n. KeepsLines c.args.feed.now c.line.feed c.args.earlier.now c.line.earlier within n c.line.bytes) all
+    so.keeps

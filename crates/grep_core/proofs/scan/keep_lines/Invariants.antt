@@ -8,5 +8,6 @@ abbrev pub invariant-line : goal.invariant-line
 invariant-line l = record {
   live : l.feed.phase ≢ Closed;
   within : l.counter ≤ l.lines;
-  kept : (within : ℕ) → HoldsLines l.initial.feed within l.lines → KeptSo l.initial.feed l.feed l.initial.earlier l.earlier within l.lines l.counter l.bytes;
+  kept : (within : ℕ) → HoldsLines l.initial.feed within l.lines
+      → KeptSo l.initial.feed l.feed l.initial.earlier l.earlier within l.lines l.counter l.bytes;
 }

@@ -19,9 +19,18 @@ returns-in_err-write_line g c t s err same =
     let e = c.in_err-write_line.field-0.0 in
     let is : c.from_residual.result ≡ Err (stop_of e) = search rules in
     let lines : job.show ≡ Lines = search rules in
-    let text = context-text job.plan.now job.name.now job.show c.args.course.now t row lines same c.if-line-course.true in
-    subst (Passes (work_of job) t (progress c.args.course.now s (printed old err)) (progress c.args.course.now s (printed new err))) (sym is)
-    (subst (λ l. Halts l old new (stop_of e)) text (halts-of _ old new e (c.in_err-write_line.ensures (record { row = row; is_selected = false; begins_group = false }) refl refl)), refl)
+    let text = context-text job.plan.now job.name.now job.show c.args.course.now t row lines same
+    c.if-line-course.true in
+    subst (Passes (work_of job) t (progress c.args.course.now s (printed old err))
+    (progress c.args.course.now s (printed new err))) (sym is) (
+      subst (λ l. Halts l old new (stop_of e)) text
+          (halts-of _ old new e (c.in_err-write_line.ensures (record {
+            row = row;
+            is_selected = false;
+            begins_group = false;
+          }) refl refl)),
+      refl,
+    )
 
 pub returns-in_ok-write_line : goal.returns-in_ok-write_line
 returns-in_ok-write_line g c t s err same =
@@ -31,8 +40,13 @@ returns-in_ok-write_line g c t s err same =
     let new = g.O.Sink.tells c.write_line.new.out in
     let lines : job.show ≡ Lines = search rules in
     record {
-      wrote = subst (λ l. WritesAll l old new) (context-text job.plan.now job.name.now job.show c.args.course.now t row lines same c.if-line-course.true)
-          (wrote-of _ old new _ (c.in_ok-write_line.ensures (record { row = row; is_selected = false; begins_group = false }) refl refl));
+      wrote = subst (λ l. WritesAll l old new)
+          (context-text job.plan.now job.name.now job.show c.args.course.now t row lines same c.if-line-course.true)
+          (wrote-of _ old new _ (c.in_ok-write_line.ensures (record {
+            row = row;
+            is_selected = false;
+            begins_group = false;
+          }) refl refl));
       stands = context-after job.plan.now job.show c.args.course.now t row lines same c.if-line-course.true;
       limit = refl;
       longest = refl;

@@ -20,7 +20,8 @@ pass_but-requires-clause-held c =
     (c.in-Some.ensures.reach job.plan.now (patterns_in job.patterns.now) c.requires.watch).held
 
 pub keep_lines-requires-clause-live : goal.keep_lines-requires-clause-live
-keep_lines-requires-clause-live c = left-live (work_of c.args.job.now) c.args.job.now.most _ _ _ _ _ c.in-Some-pass_but.ensures c.requires.live
+keep_lines-requires-clause-live c = left-live (work_of c.args.job.now) c.args.job.now.most _ _ _ _ _
+    c.in-Some-pass_but.ensures c.requires.live
 
 pub keep_lines-requires-clause-max : goal.keep_lines-requires-clause-max
 keep_lines-requires-clause-max c =
@@ -38,9 +39,14 @@ pub returns-in_err-kept-clause-taken : goal.returns-in_err-kept-clause-taken
 returns-in_err-kept-clause-taken c = λ s out err few.
     let job = c.args.job.now in
     let old = c.args.course.now in
-    let new : Course = record { selected = old.selected; context_to = old.context_to; earlier = c.keep_lines.new.earlier } in
+    let new : Course = record {
+      selected = old.selected;
+      context_to = old.context_to;
+      earlier = c.keep_lines.new.earlier;
+    } in
     let same : c.from_residual.result ≡ Err Memory = search rules in
-    subst (TakesRun (work_of job) job.most c.args.feed.now c.keep_lines.new.feed (progress old s (printed out err)) (progress new s (printed out err))) (sym same)
+    subst (TakesRun (work_of job) job.most c.args.feed.now c.keep_lines.new.feed (progress old s (printed out err))
+    (progress new s (printed out err))) (sym same)
     (kept-halts (work_of job) job.most c.args.feed.now c.keep_lines.new.feed old new s out err refl)
 
 pub returns-clause-watch : goal.returns-clause-watch
@@ -53,7 +59,9 @@ returns-clause-watch c =
     let kept = c.in_ok-kept.kept in
     let is = c.skip-2.ensures ∙ ap (λ (w : Watch). with_quiet w (w.quiet - kept)) c.skip.ensures in
     subst (λ (w : Watch). Watches job.plan.now (patterns_in job.patterns.now) w c.keep_lines.new.feed.held) (sym is)
-    (kept-watches (work_of job) f c.pass_but.new.self c.keep_lines.new.feed within passed kept c.args.course.now.earlier c.keep_lines.new.earlier leaves (c.in_ok-kept.ensures (min within f.max - passed) leaves.holds) c.reach.new.self
+    (kept-watches (work_of job) f c.pass_but.new.self c.keep_lines.new.feed within passed kept
+    c.args.course.now.earlier c.keep_lines.new.earlier leaves
+    (c.in_ok-kept.ensures (min within f.max - passed) leaves.holds) c.reach.new.self
     (c.in-Some.ensures.reach job.plan.now (patterns_in job.patterns.now) c.requires.watch))
 
 pub returns-clause-taken : goal.returns-clause-taken
@@ -63,6 +71,8 @@ returns-clause-taken c = λ s out err few.
     let within = c.in-Some.within in
     let passed = c.in-Some-pass_but.passed in
     let leaves = c.in-Some-pass_but.ensures in
-    kept-ahead (work_of job) f c.pass_but.new.self c.keep_lines.new.feed within passed c.in_ok-kept.kept c.args.course.now.earlier c.keep_lines.new.earlier leaves (c.in_ok-kept.ensures (min within f.max - passed) leaves.holds) job.most
+    kept-ahead (work_of job) f c.pass_but.new.self c.keep_lines.new.feed within passed c.in_ok-kept.kept
+    c.args.course.now.earlier c.keep_lines.new.earlier leaves
+    (c.in_ok-kept.ensures (min within f.max - passed) leaves.holds) job.most
     c.reach.new.self c.args.course.now s out err refl (c.requires.limit c.requires.kept.lines) c.requires.kept few
     (c.in-Some.ensures.reach job.plan.now (patterns_in job.patterns.now) c.requires.watch)

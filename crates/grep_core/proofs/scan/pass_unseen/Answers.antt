@@ -13,7 +13,8 @@ returns-then-hides_unmatched c =
     let patterns = patterns_in job.patterns.now in
     let course = course_of c.args.course.now in
     unseen-over (work_of job) course c.pass.new.self c.args.feed.now c.pass.new.feed
-    (subst (λ n. HidesUnmatched plan job.name.now job.show course n) c.number.ensures (c.hides_unmatched.ensures c.if-hides_unmatched.true))
+    (subst (λ n. HidesUnmatched plan job.name.now job.show course n) c.number.ensures
+    (c.hides_unmatched.ensures c.if-hides_unmatched.true))
     (c.pass.ensures plan patterns c.requires.watch)
 
 pub returns-else-hides_unmatched : goal.returns-else-hides_unmatched

@@ -6,4 +6,5 @@ use Rattle.grep_core.proofs.scan.take_ahead.Goals as goal
 pub pass_kept-requires-clause-kept : goal.pass_kept-requires-clause-kept
 pass_kept-requires-clause-kept g c =
     let job = c.args.job.now in
-    subst (λ n. KeepsUnmatched job.plan.now job.show (course_of c.args.course.now) n) c.number.ensures (c.keeps_unmatched.ensures c.if-keeps_unmatched.true)
+    subst (λ n. KeepsUnmatched job.plan.now job.show (course_of c.args.course.now) n) c.number.ensures
+    (c.keeps_unmatched.ensures c.if-keeps_unmatched.true)

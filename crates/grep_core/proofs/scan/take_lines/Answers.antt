@@ -32,23 +32,44 @@ returns-in_err-ended-clause-taken g c = λ before treated job stood.
     let job_is = c.args.job.now in
     let out = g.O.Sink.tells c.args.out.now in
     let err = g.E.Sink.tells c.args.err.now in
-    let from : Origin = record { treated = treated; before = before; feed = c.args.feed.now; course = c.args.course.now; state = c.args.state.now; out = out; err = err } in
+    let from : Origin = record {
+      treated = treated;
+      before = before;
+      feed = c.args.feed.now;
+      course = c.args.course.now;
+      state = c.args.state.now;
+      out = out;
+      err = err;
+    } in
     let stop = c.in_err-ended.field-0.0 in
     let same : c.from_residual.result ≡ Err stop = search rules in
     subst
-    (TakesAll (work_of job_is) job_is.most treated (position (fed c.args.feed.now before) (progress c.args.course.now c.args.state.now (printed out err)))
-    (position (fed c.take_until.new.feed (g.S.Source.tells c.take_until.new.source)) (progress c.take_until.new.course c.take_until.new.state (printed (g.O.Sink.tells c.take_until.new.out) (g.E.Sink.tells c.take_until.new.err)))))
+    (TakesAll (work_of job_is) job_is.most treated
+    (position (fed c.args.feed.now before) (progress c.args.course.now c.args.state.now (printed out err)))
+    (position (fed c.take_until.new.feed (g.S.Source.tells c.take_until.new.source))
+    (progress c.take_until.new.course c.take_until.new.state
+    (printed (g.O.Sink.tells c.take_until.new.out) (g.E.Sink.tells c.take_until.new.err)))))
     (sym same)
     (c.in_err-ended.ensures.taken from job
-    (standing-begun _ _ treated _ before _ _ _ _ _ job stood c.requires.selected c.requires.context c.requires.earlier c.requires.errors))
+    (standing-begun _ _ treated _ before _ _ _ _ _ job stood c.requires.selected c.requires.context c.requires.earlier
+    c.requires.errors))
 
 pub returns-in-Done-clause-taken : goal.returns-in-Done-clause-taken
 returns-in-Done-clause-taken g c = λ before treated job stood.
     let out = g.O.Sink.tells c.args.out.now in
     let err = g.E.Sink.tells c.args.err.now in
-    let from : Origin = record { treated = treated; before = before; feed = c.args.feed.now; course = c.args.course.now; state = c.args.state.now; out = out; err = err } in
+    let from : Origin = record {
+      treated = treated;
+      before = before;
+      feed = c.args.feed.now;
+      course = c.args.course.now;
+      state = c.args.state.now;
+      out = out;
+      err = err;
+    } in
     rw c.in-Done.is at (c.in_ok-ended.ensures.taken from job
-    (standing-begun _ _ treated _ before _ _ _ _ _ job stood c.requires.selected c.requires.context c.requires.earlier c.requires.errors))
+    (standing-begun _ _ treated _ before _ _ _ _ _ job stood c.requires.selected c.requires.context c.requires.earlier
+    c.requires.errors))
 
 pub returns-clause-taken : goal.returns-clause-taken
 returns-clause-taken g c = λ before treated job stood.
@@ -64,5 +85,6 @@ returns-clause-taken g c = λ before treated job stood.
       err = err;
     } in
     let stands = rw c.in-Far.is at (c.in_ok-ended.ensures.taken from job
-    (standing-begun _ _ treated _ before _ _ _ _ _ job stood c.requires.selected c.requires.context c.requires.earlier c.requires.errors)) in
+    (standing-begun _ _ treated _ before _ _ _ _ _ job stood c.requires.selected c.requires.context c.requires.earlier
+    c.requires.errors)) in
     c.take_rest.ensures.taken from job stands

@@ -32,8 +32,10 @@ returns-in_err-write_texts-clause-taken g c = λ err.
     let quiet = c.in-Some.ensures.run job.plan.now (patterns_in job.patterns.now) c.requires.watch in
     let prints = c.prints_unmatched.ensures c.if-not-prints_unmatched.false in
     let text = append-nil (take run.bytes c.held.result.now) ∙ ap (λ l. take run.bytes l) c.held.ensures in
-    subst (TakesRun (work_of job) job.most feed feed (progress c.args.course.now c.args.state.now (printed old err)) (progress c.args.course.now c.args.state.now (printed new err))) (sym is)
-    (run-halts (work_of job) job.most c.run.new.self feed run c.args.course.now c.args.state.now old err quiet prints c.requires.errors feed new (stop_of e)
+    subst (TakesRun (work_of job) job.most feed feed (progress c.args.course.now c.args.state.now (printed old err))
+    (progress c.args.course.now c.args.state.now (printed new err))) (sym is)
+    (run-halts (work_of job) job.most c.run.new.self feed run c.args.course.now c.args.state.now old err quiet prints
+    c.requires.errors feed new (stop_of e)
     (subst (λ l. Halts l old new (stop_of e)) text (halts-of _ old new e c.in_err-write_texts.ensures)))
 
 pub returns-clause-taken : goal.returns-clause-taken
@@ -46,9 +48,16 @@ returns-clause-taken g c = λ err.
     let quiet = c.in-Some.ensures.run job.plan.now (patterns_in job.patterns.now) c.requires.watch in
     let prints = c.prints_unmatched.ensures c.if-not-prints_unmatched.false in
     let text = append-nil (take run.bytes c.held.result.now) ∙ ap (λ l. take run.bytes l) c.held.ensures in
-    let course : Course = record { selected = c.args.course.now.selected + run.rows; context_to = c.number-course.result; earlier = c.args.course.now.earlier } in
+    let course : Course = record {
+      selected = c.args.course.now.selected + run.rows;
+      context_to = c.number-course.result;
+      earlier = c.args.course.now.earlier;
+    } in
     let state : State = record c.args.state.now { has_shown = true } in
-    subst (λ (x : Feed). TakesAhead (work_of job) job.most feed x (progress c.args.course.now c.args.state.now (printed old err)) (progress course state (printed new err))) (sym c.skip.ensures)
-    (run-ahead (work_of job) job.most c.run.new.self feed run c.args.course.now c.args.state.now old err quiet prints c.requires.errors course state new
+    subst (λ (x : Feed). TakesAhead (work_of job) job.most feed x
+    (progress c.args.course.now c.args.state.now (printed old err)) (progress course state (printed new err)))
+    (sym c.skip.ensures)
+    (run-ahead (work_of job) job.most c.run.new.self feed run c.args.course.now c.args.state.now old err quiet prints
+    c.requires.errors course state new
     (subst (λ l. WritesAll l old new) text (wrote-of _ old new _ c.in_ok-write_texts.ensures))
     refl (c.number-course.ensures ∙ ap (λ (x : Feed). x.number) c.skip.ensures) refl refl)

@@ -15,9 +15,12 @@ take_line-requires-clause-quiet g c = λ quiet.
     let line = c.in-Ok-Some.line in
     let now = g.S.Source.tells c.args.source.now in
     let later = g.S.Source.tells c.next.new.source in
-    let gives : Gives f new now later (row_of line) = subst (Answers f new now later) (c.in-Ok-Some.is ∙ ap Ok c.in-Ok-Some.field-0-is) c.next.follows.holds-at-none in
-    let had = watches_gives plan patterns c.look.new.self f new now later (row_of line) gives (c.look.ensures plan patterns c.requires.watch) in
-    c.passes-is_quiet.ensures quiet plan patterns (line.end.now ++ new.held) (watches_line plan patterns c.look.new.self line.bytes.now line.end.now new.held had)
+    let gives : Gives f new now later (row_of line) = subst (Answers f new now later)
+    (c.in-Ok-Some.is ∙ ap Ok c.in-Ok-Some.field-0-is) c.next.follows.holds-at-none in
+    let had = watches_gives plan patterns c.look.new.self f new now later (row_of line) gives
+    (c.look.ensures plan patterns c.requires.watch) in
+    c.passes-is_quiet.ensures quiet plan patterns (line.end.now ++ new.held)
+    (watches_line plan patterns c.look.new.self line.bytes.now line.end.now new.held had)
 
 pub returns-in_ok-take_line-in-Ok-Some-clause-watch : goal.returns-in_ok-take_line-in-Ok-Some-clause-watch
 returns-in_ok-take_line-in-Ok-Some-clause-watch g c = λ next is.
@@ -28,8 +31,10 @@ returns-in_ok-take_line-in-Ok-Some-clause-watch g c = λ next is.
     let line = c.in-Ok-Some.line in
     let now = g.S.Source.tells c.args.source.now in
     let later = g.S.Source.tells c.next.new.source in
-    let gives : Gives f new now later (row_of line) = subst (Answers f new now later) (c.in-Ok-Some.is ∙ ap Ok c.in-Ok-Some.field-0-is) c.next.follows.holds-at-none in
-    c.leave.ensures plan patterns new.held (watches_gives plan patterns c.look.new.self f new now later (row_of line) gives (c.look.ensures plan patterns c.requires.watch))
+    let gives : Gives f new now later (row_of line) = subst (Answers f new now later)
+    (c.in-Ok-Some.is ∙ ap Ok c.in-Ok-Some.field-0-is) c.next.follows.holds-at-none in
+    c.leave.ensures plan patterns new.held (watches_gives plan patterns c.look.new.self f new now later (row_of line)
+    gives (c.look.ensures plan patterns c.requires.watch))
 
 pub take_line-requires-clause-short : goal.take_line-requires-clause-short
 take_line-requires-clause-short g c =
@@ -38,5 +43,6 @@ take_line-requires-clause-short g c =
     let now = g.S.Source.tells c.args.source.now in
     let later = g.S.Source.tells c.next.new.source in
     let row = row_of c.in-Ok-Some.line in
-    let gives : Gives f new now later row = subst (Answers f new now later) (c.in-Ok-Some.is ∙ ap Ok c.in-Ok-Some.field-0-is) c.next.follows.holds-at-none in
+    let gives : Gives f new now later row = subst (Answers f new now later)
+    (c.in-Ok-Some.is ∙ ap Ok c.in-Ok-Some.field-0-is) c.next.follows.holds-at-none in
     gives-short c.args.course.now.earlier.longest f new now later row c.requires.longest gives

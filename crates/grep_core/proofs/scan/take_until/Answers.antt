@@ -11,7 +11,8 @@ use Rattle.grep_core.proofs.ScansTaken.{standing-line, standing-pauses}
 use Rattle.grep_core.proofs.ScansEnd.{scans-ends, scans-stops}
 use Rattle.grep_core.proofs.ScansLoop.{keeps-more, gave}
 use Rattle.grep_core.proofs.ScansSent.{standing-sent, scans-unsent}
-use Rattle.grep_core.proofs.Ahead.{ahead-live, ahead-max, ahead-offset, ahead-limit, ahead-longest, ahead-keeps, ahead-standing, scans-cut}
+use Rattle.grep_core.proofs.Ahead.{ahead-live, ahead-max, ahead-offset, ahead-limit, ahead-longest, ahead-keeps}
+use Rattle.grep_core.proofs.Ahead.{ahead-standing, scans-cut}
 use Rattle.grep_core.proofs.Unseen.{unseen-live, unseen-max, unseen-offset, unseen-keeps, unseen-standing}
 use Rattle.line_feed.specs.View.{Feed}
 use Rattle.line_feed.specs.declared.phase.Phase.TheVariants.{Closed}
@@ -26,7 +27,8 @@ line-init g c = record {
 
 pub pass_unseen-requires-clause-watch : goal.pass_unseen-requires-clause-watch
 pass_unseen-requires-clause-watch g c =
-    c.sift.ensures.watch c.args.job.now.plan.now (patterns_in c.args.job.now.patterns.now) c.line.invariant.filter c.line.invariant.ready.watch
+    c.sift.ensures.watch c.args.job.now.plan.now (patterns_in c.args.job.now.patterns.now) c.line.invariant.filter
+    c.line.invariant.ready.watch
 
 pub take_ahead-requires-clause-live : goal.take_ahead-requires-clause-live
 take_ahead-requires-clause-live g c = unseen-live _ _ _ _ _ c.pass_unseen.ensures c.line.invariant.ready.live
@@ -44,51 +46,75 @@ take_ahead-requires-clause-longest g c =
     omega (arith, same, least)
 
 pub take_turn-requires-clause-live : goal.take_turn-requires-clause-live
-take_turn-requires-clause-live g c = subst (λ (f : Feed). f.phase ≢ Closed) (sym c.send_on.ensures.same) (ahead-live _ _ _ _ _ _ (c.in_ok-take_ahead.ensures.taken (g.E.Sink.tells c.line.err)) (unseen-live _ _ _ _ _ c.pass_unseen.ensures c.line.invariant.ready.live))
+take_turn-requires-clause-live g c = subst (λ (f : Feed). f.phase ≢ Closed) (sym c.send_on.ensures.same)
+    (ahead-live _ _ _ _ _ _ (c.in_ok-take_ahead.ensures.taken (g.E.Sink.tells c.line.err))
+    (unseen-live _ _ _ _ _ c.pass_unseen.ensures c.line.invariant.ready.live))
 
 pub take_turn-requires-clause-max : goal.take_turn-requires-clause-max
 take_turn-requires-clause-max g c =
     let few : c.args.job.now.plan.now.after_context < 2 ^ 32 = let most = c.if-prove.false in omega arith in
-    let kept = subst (λ (f : Feed). Keeps f c.take_ahead.new.course c.take_ahead.new.state) (sym c.send_on.ensures.same) (ahead-keeps _ _ _ _ _ _ (c.in_ok-take_ahead.ensures.taken (g.E.Sink.tells c.line.err)) few (unseen-keeps _ c.line.course c.line.state _ _ _ c.pass_unseen.ensures few c.line.invariant.ready.keeps)) in kept.max
+    let kept = subst (λ (f : Feed). Keeps f c.take_ahead.new.course c.take_ahead.new.state)
+    (sym c.send_on.ensures.same)
+    (ahead-keeps _ _ _ _ _ _ (c.in_ok-take_ahead.ensures.taken (g.E.Sink.tells c.line.err)) few
+    (unseen-keeps _ c.line.course c.line.state _ _ _ c.pass_unseen.ensures few c.line.invariant.ready.keeps)) in
+    kept.max
 
 pub take_turn-requires-clause-numbered : goal.take_turn-requires-clause-numbered
 take_turn-requires-clause-numbered g c =
     let few : c.args.job.now.plan.now.after_context < 2 ^ 32 = let most = c.if-prove.false in omega arith in
-    let kept = subst (λ (f : Feed). Keeps f c.take_ahead.new.course c.take_ahead.new.state) (sym c.send_on.ensures.same) (ahead-keeps _ _ _ _ _ _ (c.in_ok-take_ahead.ensures.taken (g.E.Sink.tells c.line.err)) few (unseen-keeps _ c.line.course c.line.state _ _ _ c.pass_unseen.ensures few c.line.invariant.ready.keeps)) in kept.numbered
+    let kept = subst (λ (f : Feed). Keeps f c.take_ahead.new.course c.take_ahead.new.state)
+    (sym c.send_on.ensures.same)
+    (ahead-keeps _ _ _ _ _ _ (c.in_ok-take_ahead.ensures.taken (g.E.Sink.tells c.line.err)) few
+    (unseen-keeps _ c.line.course c.line.state _ _ _ c.pass_unseen.ensures few c.line.invariant.ready.keeps)) in
+    kept.numbered
 
 pub take_turn-requires-clause-earlier : goal.take_turn-requires-clause-earlier
 take_turn-requires-clause-earlier g c =
     let few : c.args.job.now.plan.now.after_context < 2 ^ 32 = let most = c.if-prove.false in omega arith in
-    let kept = subst (λ (f : Feed). Keeps f c.take_ahead.new.course c.take_ahead.new.state) (sym c.send_on.ensures.same) (ahead-keeps _ _ _ _ _ _ (c.in_ok-take_ahead.ensures.taken (g.E.Sink.tells c.line.err)) few (unseen-keeps _ c.line.course c.line.state _ _ _ c.pass_unseen.ensures few c.line.invariant.ready.keeps)) in kept.earlier
+    let kept = subst (λ (f : Feed). Keeps f c.take_ahead.new.course c.take_ahead.new.state)
+    (sym c.send_on.ensures.same)
+    (ahead-keeps _ _ _ _ _ _ (c.in_ok-take_ahead.ensures.taken (g.E.Sink.tells c.line.err)) few
+    (unseen-keeps _ c.line.course c.line.state _ _ _ c.pass_unseen.ensures few c.line.invariant.ready.keeps)) in
+    kept.earlier
 
 pub take_turn-requires-clause-context : goal.take_turn-requires-clause-context
 take_turn-requires-clause-context g c =
     let few : c.args.job.now.plan.now.after_context < 2 ^ 32 = let most = c.if-prove.false in omega arith in
-    let kept = ahead-keeps _ _ _ _ _ _ (c.in_ok-take_ahead.ensures.taken (g.E.Sink.tells c.line.err)) few (unseen-keeps _ c.line.course c.line.state _ _ _ c.pass_unseen.ensures few c.line.invariant.ready.keeps) in kept.context
+    let kept = ahead-keeps _ _ _ _ _ _ (c.in_ok-take_ahead.ensures.taken (g.E.Sink.tells c.line.err)) few
+    (unseen-keeps _ c.line.course c.line.state _ _ _ c.pass_unseen.ensures few c.line.invariant.ready.keeps) in
+    kept.context
 
 pub take_turn-requires-clause-selected : goal.take_turn-requires-clause-selected
 take_turn-requires-clause-selected g c =
     let few : c.args.job.now.plan.now.after_context < 2 ^ 32 = let most = c.if-prove.false in omega arith in
-    let kept = ahead-keeps _ _ _ _ _ _ (c.in_ok-take_ahead.ensures.taken (g.E.Sink.tells c.line.err)) few (unseen-keeps _ c.line.course c.line.state _ _ _ c.pass_unseen.ensures few c.line.invariant.ready.keeps) in let count = kept.selected in let number = kept.number in omega (arith, count, number)
+    let kept = ahead-keeps _ _ _ _ _ _ (c.in_ok-take_ahead.ensures.taken (g.E.Sink.tells c.line.err)) few
+    (unseen-keeps _ c.line.course c.line.state _ _ _ c.pass_unseen.ensures few c.line.invariant.ready.keeps) in
+    let count = kept.selected in let number = kept.number in omega (arith, count, number)
 
 pub take_turn-requires-clause-errors : goal.take_turn-requires-clause-errors
 take_turn-requires-clause-errors g c =
     let few : c.args.job.now.plan.now.after_context < 2 ^ 32 = let most = c.if-prove.false in omega arith in
-    let kept = ahead-keeps _ _ _ _ _ _ (c.in_ok-take_ahead.ensures.taken (g.E.Sink.tells c.line.err)) few (unseen-keeps _ c.line.course c.line.state _ _ _ c.pass_unseen.ensures few c.line.invariant.ready.keeps) in kept.errors
+    let kept = ahead-keeps _ _ _ _ _ _ (c.in_ok-take_ahead.ensures.taken (g.E.Sink.tells c.line.err)) few
+    (unseen-keeps _ c.line.course c.line.state _ _ _ c.pass_unseen.ensures few c.line.invariant.ready.keeps) in
+    kept.errors
 
 pub take_turn-requires-clause-longest : goal.take_turn-requires-clause-longest
 take_turn-requires-clause-longest g c =
-    let same = ap (λ (f : Feed). f.max) c.send_on.ensures.same ∙ ahead-max _ _ _ _ _ _ (c.in_ok-take_ahead.ensures.taken (g.E.Sink.tells c.line.err)) ∙ unseen-max _ _ _ _ _ c.pass_unseen.ensures in
+    let same = ap (λ (f : Feed). f.max) c.send_on.ensures.same
+    ∙ ahead-max _ _ _ _ _ _ (c.in_ok-take_ahead.ensures.taken (g.E.Sink.tells c.line.err))
+    ∙ unseen-max _ _ _ _ _ c.pass_unseen.ensures in
     let longest = ahead-longest _ _ _ _ _ _ (c.in_ok-take_ahead.ensures.taken (g.E.Sink.tells c.line.err)) in
     let least = c.line.invariant.ready.longest in
     omega (arith, same, longest, least)
 
 pub take_turn-requires-clause-limit : goal.take_turn-requires-clause-limit
-take_turn-requires-clause-limit g c = λ is. ahead-limit _ _ _ _ _ _ (c.in_ok-take_ahead.ensures.taken (g.E.Sink.tells c.line.err)) ∙ c.line.invariant.ready.limit is
+take_turn-requires-clause-limit g c = λ is. ahead-limit _ _ _ _ _ _
+    (c.in_ok-take_ahead.ensures.taken (g.E.Sink.tells c.line.err)) ∙ c.line.invariant.ready.limit is
 
 pub take_turn-requires-clause-watch : goal.take_turn-requires-clause-watch
 take_turn-requires-clause-watch g c =
-    subst (λ (f : Feed). Watches c.args.job.now.plan.now (patterns_in c.args.job.now.patterns.now) c.take_ahead.new.watch f.held) (sym c.send_on.ensures.same) c.in_ok-take_ahead.ensures.watch
+    subst (λ (f : Feed). Watches c.args.job.now.plan.now (patterns_in c.args.job.now.patterns.now)
+    c.take_ahead.new.watch f.held) (sym c.send_on.ensures.same) c.in_ok-take_ahead.ensures.watch
 
 pub returns-in_err-take_turn-clause-taken : goal.returns-in_err-take_turn-clause-taken
 returns-in_err-take_turn-clause-taken g c = λ from job stands.
@@ -97,9 +123,17 @@ returns-in_err-take_turn-clause-taken g c = λ from job stands.
     let same : c.from_residual-in_err-take_turn.result ≡ Err stop = search rules in
     subst
     (TakesPart (work_of job_is) job_is.most from
-    (position (fed c.take_turn.new.feed (g.S.Source.tells c.take_turn.new.source)) (progress c.take_turn.new.course c.take_turn.new.state (printed (g.O.Sink.tells c.take_turn.new.out) (g.E.Sink.tells c.take_turn.new.err)))))
+    (position (fed c.take_turn.new.feed (g.S.Source.tells c.take_turn.new.source))
+    (progress c.take_turn.new.course c.take_turn.new.state
+    (printed (g.O.Sink.tells c.take_turn.new.out) (g.E.Sink.tells c.take_turn.new.err)))))
     (sym same)
-    (scans-stops _ _ from.treated _ _ job from.before _ _ _ _ _ _ _ _ _ _ _ _ _ _ (standing-sent _ _ from.treated _ from.before _ _ _ _ _ _ _ _ _ (ahead-standing _ _ _ _ _ _ (c.in_ok-take_ahead.ensures.taken (g.E.Sink.tells c.line.err)) from.treated _ from.before _ _ _ (unseen-standing _ c.line.course c.line.state _ _ _ c.pass_unseen.ensures _ from.treated _ from.before _ _ _ _ _ c.line.invariant.ready.keeps.errors (c.line.invariant.standing from job stands))) _ c.send_on.ensures.same c.in_ok-send_on.ensures.sent) stop c.in_err-take_turn.ensures.turns)
+    (scans-stops _ _ from.treated _ _ job from.before _ _ _ _ _ _ _ _ _ _ _ _ _ _
+    (standing-sent _ _ from.treated _ from.before _ _ _ _ _ _ _ _ _
+    (ahead-standing _ _ _ _ _ _ (c.in_ok-take_ahead.ensures.taken (g.E.Sink.tells c.line.err)) from.treated _
+    from.before _ _ _ (unseen-standing _ c.line.course c.line.state _ _ _ c.pass_unseen.ensures _
+    from.treated _ from.before _ _ _ _ _ c.line.invariant.ready.keeps.errors
+    (c.line.invariant.standing from job stands))) _ c.send_on.ensures.same c.in_ok-send_on.ensures.sent)
+    stop c.in_err-take_turn.ensures.turns)
 
 pub line-smaller : goal.line-smaller
 line-smaller g c =
@@ -117,34 +151,61 @@ line-preserved g c =
     let row = rw c.in-Took-Line.field-0-is at (rw c.in-Took-Line.is at c.in_ok-take_turn.ensures.turns) in
     let few : c.args.job.now.plan.now.after_context < 2 ^ 32 = let most = c.if-prove.false in omega arith in
     let had = c.line.invariant.ready in
-    let kept = subst (λ (f : Feed). Keeps f c.take_ahead.new.course c.take_ahead.new.state) (sym c.send_on.ensures.same) (ahead-keeps _ _ _ _ _ _ (c.in_ok-take_ahead.ensures.taken (g.E.Sink.tells c.line.err)) few (unseen-keeps _ c.line.course c.line.state _ _ _ c.pass_unseen.ensures few had.keeps)) in
+    let kept = subst (λ (f : Feed). Keeps f c.take_ahead.new.course c.take_ahead.new.state)
+    (sym c.send_on.ensures.same)
+    (ahead-keeps _ _ _ _ _ _ (c.in_ok-take_ahead.ensures.taken (g.E.Sink.tells c.line.err)) few
+    (unseen-keeps _ c.line.course c.line.state _ _ _ c.pass_unseen.ensures few had.keeps)) in
     record {
       ready = record {
         live = live-gives _ _ _ _ row.row row.gives;
-        keeps = keeps-more (work_of c.args.job.now) c.args.job.now.most _ _ _ _ row.row _ _ _ _ _ _ _ _ _ _ few refl kept row.gives row.takes;
-        watch = c.in_ok-take_turn.ensures.watch Line (ap (λ t. Ok t) (c.in-Took-Line.is ∙ ap Took c.in-Took-Line.field-0-is));
-        limit = λ is. row.takes.limit ∙ ahead-limit _ _ _ _ _ _ (c.in_ok-take_ahead.ensures.taken (g.E.Sink.tells c.line.err)) ∙ had.limit is;
+        keeps = keeps-more (work_of c.args.job.now) c.args.job.now.most _ _ _ _ row.row _ _ _ _ _ _ _ _ _ _ few refl
+            kept row.gives row.takes;
+        watch = c.in_ok-take_turn.ensures.watch Line
+            (ap (λ t. Ok t) (c.in-Took-Line.is ∙ ap Took c.in-Took-Line.field-0-is));
+        limit = λ is. row.takes.limit ∙ ahead-limit _ _ _ _ _ _
+            (c.in_ok-take_ahead.ensures.taken (g.E.Sink.tells c.line.err)) ∙ had.limit is;
         longest =
             let grew = gave _ _ _ _ row.row row.gives in
             let max = grew.max in
-            let same = ap (λ (f : Feed). f.max) c.send_on.ensures.same ∙ ahead-max _ _ _ _ _ _ (c.in_ok-take_ahead.ensures.taken (g.E.Sink.tells c.line.err)) ∙ unseen-max _ _ _ _ _ c.pass_unseen.ensures in
+            let same = ap (λ (f : Feed). f.max) c.send_on.ensures.same
+            ∙ ahead-max _ _ _ _ _ _ (c.in_ok-take_ahead.ensures.taken (g.E.Sink.tells c.line.err))
+            ∙ unseen-max _ _ _ _ _ c.pass_unseen.ensures in
             let least = had.longest in
-            let longest = row.takes.longest ∙ ahead-longest _ _ _ _ _ _ (c.in_ok-take_ahead.ensures.taken (g.E.Sink.tells c.line.err)) in
+            let longest = row.takes.longest ∙ ahead-longest _ _ _ _ _ _
+            (c.in_ok-take_ahead.ensures.taken (g.E.Sink.tells c.line.err)) in
             omega (arith, max, same, least, longest);
       };
-      filter = c.sift.ensures.same c.args.job.now.plan.now (patterns_in c.args.job.now.patterns.now) c.line.invariant.filter;
-      standing = λ from job stands. standing-line _ _ from.treated _ from.before _ _ _ _ row.row _ _ _ _ _ _ _ _ _ _ (standing-sent _ _ from.treated _ from.before _ _ _ _ _ _ _ _ _ (ahead-standing _ _ _ _ _ _ (c.in_ok-take_ahead.ensures.taken (g.E.Sink.tells c.line.err)) from.treated _ from.before _ _ _ (unseen-standing _ c.line.course c.line.state _ _ _ c.pass_unseen.ensures _ from.treated _ from.before _ _ _ _ _ had.keeps.errors (c.line.invariant.standing from job stands))) _ c.send_on.ensures.same c.in_ok-send_on.ensures.sent) row.gives row.takes;
+      filter = c.sift.ensures.same c.args.job.now.plan.now (patterns_in c.args.job.now.patterns.now)
+          c.line.invariant.filter;
+      standing = λ from job stands. standing-line _ _ from.treated _ from.before _ _ _ _ row.row _ _ _ _ _ _ _ _ _ _
+          (standing-sent _ _ from.treated _ from.before _ _ _ _ _ _ _ _ _
+          (ahead-standing _ _ _ _ _ _ (c.in_ok-take_ahead.ensures.taken (g.E.Sink.tells c.line.err)) from.treated _
+          from.before _ _ _ (unseen-standing _ c.line.course c.line.state _ _ _ c.pass_unseen.ensures _
+          from.treated _ from.before _ _ _ _ _ had.keeps.errors (c.line.invariant.standing from job stands))) _
+          c.send_on.ensures.same c.in_ok-send_on.ensures.sent) row.gives row.takes;
     }
 
 pub returns-in-Took-Context-clause-taken : goal.returns-in-Took-Context-clause-taken
 returns-in-Took-Context-clause-taken g c = λ from job stands.
     let row = rw c.in-Took-Context.field-0-is at (rw c.in-Took-Context.is at c.in_ok-take_turn.ensures.turns) in
-    standing-pauses _ _ from.treated _ from.before _ _ _ _ row.row _ _ _ _ _ _ _ _ _ _ (standing-sent _ _ from.treated _ from.before _ _ _ _ _ _ _ _ _ (ahead-standing _ _ _ _ _ _ (c.in_ok-take_ahead.ensures.taken (g.E.Sink.tells c.line.err)) from.treated _ from.before _ _ _ (unseen-standing _ c.line.course c.line.state _ _ _ c.pass_unseen.ensures _ from.treated _ from.before _ _ _ _ _ c.line.invariant.ready.keeps.errors (c.line.invariant.standing from job stands))) _ c.send_on.ensures.same c.in_ok-send_on.ensures.sent) row.gives from.feed from.course row.takes
+    standing-pauses _ _ from.treated _ from.before _ _ _ _ row.row _ _ _ _ _ _ _ _ _ _
+    (standing-sent _ _ from.treated _ from.before _ _ _ _ _ _ _ _ _
+    (ahead-standing _ _ _ _ _ _ (c.in_ok-take_ahead.ensures.taken (g.E.Sink.tells c.line.err)) from.treated _
+    from.before _ _ _ (unseen-standing _ c.line.course c.line.state _ _ _ c.pass_unseen.ensures _ from.treated
+    _ from.before _ _ _ _ _ c.line.invariant.ready.keeps.errors
+    (c.line.invariant.standing from job stands))) _ c.send_on.ensures.same c.in_ok-send_on.ensures.sent)
+    row.gives from.feed from.course row.takes
 
 pub returns-in-Finished-clause-taken : goal.returns-in-Finished-clause-taken
 returns-in-Finished-clause-taken g c = λ from job stands.
     let ends = rw c.in-Finished.is at c.in_ok-take_turn.ensures.turns in
-    scans-ends _ _ from.treated _ _ job from.before _ _ _ _ _ _ _ _ _ _ _ _ _ _ (standing-sent _ _ from.treated _ from.before _ _ _ _ _ _ _ _ _ (ahead-standing _ _ _ _ _ _ (c.in_ok-take_ahead.ensures.taken (g.E.Sink.tells c.line.err)) from.treated _ from.before _ _ _ (unseen-standing _ c.line.course c.line.state _ _ _ c.pass_unseen.ensures _ from.treated _ from.before _ _ _ _ _ c.line.invariant.ready.keeps.errors (c.line.invariant.standing from job stands))) _ c.send_on.ensures.same c.in_ok-send_on.ensures.sent) c.in-Finished.ended ends.0 ends.1
+    scans-ends _ _ from.treated _ _ job from.before _ _ _ _ _ _ _ _ _ _ _ _ _ _
+    (standing-sent _ _ from.treated _ from.before _ _ _ _ _ _ _ _ _
+    (ahead-standing _ _ _ _ _ _ (c.in_ok-take_ahead.ensures.taken (g.E.Sink.tells c.line.err)) from.treated _
+    from.before _ _ _ (unseen-standing _ c.line.course c.line.state _ _ _ c.pass_unseen.ensures _ from.treated
+    _ from.before _ _ _ _ _ c.line.invariant.ready.keeps.errors
+    (c.line.invariant.standing from job stands))) _ c.send_on.ensures.same c.in_ok-send_on.ensures.sent)
+    c.in-Finished.ended ends.0 ends.1
 
 pub returns-in_err-send_on-clause-taken : goal.returns-in_err-send_on-clause-taken
 returns-in_err-send_on-clause-taken g c = λ from job stands.
@@ -153,9 +214,15 @@ returns-in_err-send_on-clause-taken g c = λ from job stands.
     let same : c.from_residual-in_err-send_on.result ≡ Err stop = search rules in
     subst
     (TakesPart (work_of job_is) job_is.most from
-    (position (fed c.send_on.new.feed (g.S.Source.tells c.line.source)) (progress c.take_ahead.new.course c.take_ahead.new.state (printed (g.O.Sink.tells c.send_on.new.out) (g.E.Sink.tells c.line.err)))))
+    (position (fed c.send_on.new.feed (g.S.Source.tells c.line.source))
+    (progress c.take_ahead.new.course c.take_ahead.new.state
+    (printed (g.O.Sink.tells c.send_on.new.out) (g.E.Sink.tells c.line.err)))))
     (sym same)
-    (scans-unsent _ _ from.treated _ from.before _ _ _ _ _ _ _ _ _ (ahead-standing _ _ _ _ _ _ (c.in_ok-take_ahead.ensures.taken (g.E.Sink.tells c.line.err)) from.treated _ from.before _ _ _ (unseen-standing _ c.line.course c.line.state _ _ _ c.pass_unseen.ensures _ from.treated _ from.before _ _ _ _ _ c.line.invariant.ready.keeps.errors (c.line.invariant.standing from job stands))) _ job stop c.in_err-send_on.ensures.sent)
+    (scans-unsent _ _ from.treated _ from.before _ _ _ _ _ _ _ _ _
+    (ahead-standing _ _ _ _ _ _ (c.in_ok-take_ahead.ensures.taken (g.E.Sink.tells c.line.err)) from.treated _
+    from.before _ _ _ (unseen-standing _ c.line.course c.line.state _ _ _ c.pass_unseen.ensures _ from.treated
+    _ from.before _ _ _ _ _ c.line.invariant.ready.keeps.errors
+    (c.line.invariant.standing from job stands))) _ job stop c.in_err-send_on.ensures.sent)
 
 pub returns-in_err-take_ahead-clause-taken : goal.returns-in_err-take_ahead-clause-taken
 returns-in_err-take_ahead-clause-taken g c = λ from job stands.
@@ -164,6 +231,11 @@ returns-in_err-take_ahead-clause-taken g c = λ from job stands.
     let same : c.from_residual.result ≡ Err stop = search rules in
     subst
     (TakesPart (work_of job_is) job_is.most from
-    (position (fed c.take_ahead.new.feed (g.S.Source.tells c.line.source)) (progress c.take_ahead.new.course c.take_ahead.new.state (printed (g.O.Sink.tells c.take_ahead.new.out) (g.E.Sink.tells c.line.err)))))
+    (position (fed c.take_ahead.new.feed (g.S.Source.tells c.line.source))
+    (progress c.take_ahead.new.course c.take_ahead.new.state
+    (printed (g.O.Sink.tells c.take_ahead.new.out) (g.E.Sink.tells c.line.err)))))
     (sym same)
-    (scans-cut _ _ from.treated _ from.before _ _ _ _ _ _ job _ _ stop (unseen-standing _ c.line.course c.line.state _ _ _ c.pass_unseen.ensures _ from.treated _ from.before _ _ _ _ _ c.line.invariant.ready.keeps.errors (c.line.invariant.standing from job stands)) (c.in_err-take_ahead.ensures.taken (g.E.Sink.tells c.line.err)))
+    (scans-cut _ _ from.treated _ from.before _ _ _ _ _ _ job _ _ stop
+    (unseen-standing _ c.line.course c.line.state _ _ _ c.pass_unseen.ensures _ from.treated _ from.before _ _ _
+    _ _ c.line.invariant.ready.keeps.errors (c.line.invariant.standing from job stands))
+    (c.in_err-take_ahead.ensures.taken (g.E.Sink.tells c.line.err)))

@@ -13,8 +13,12 @@ invariant-line g l = record {
   filter : IfSome l.filter (Filters l.job.plan.now (patterns_in l.job.patterns.now));
   standing : (from : Origin) → IsJob l.job.plan.now from.treated l.job.show l.job.most from.feed
       → StandsAt (work_of l.job) l.job.most from
-      (position (fed l.initial.feed (g.S.Source.tells l.initial.source)) (progress l.initial.course l.initial.state (printed (g.O.Sink.tells l.initial.out) (g.E.Sink.tells l.initial.err))))
-      → StandsAt (work_of l.job) l.job.most from (position (fed l.feed (g.S.Source.tells l.source)) (progress l.course l.state (printed (g.O.Sink.tells l.out) (g.E.Sink.tells l.err))));
+      (position (fed l.initial.feed (g.S.Source.tells l.initial.source))
+      (progress l.initial.course l.initial.state
+      (printed (g.O.Sink.tells l.initial.out) (g.E.Sink.tells l.initial.err))))
+      → StandsAt (work_of l.job) l.job.most from
+      (position (fed l.feed (g.S.Source.tells l.source))
+      (progress l.course l.state (printed (g.O.Sink.tells l.out) (g.E.Sink.tells l.err))));
 }
 
 abbrev pub decreases-line : goal.decreases-line

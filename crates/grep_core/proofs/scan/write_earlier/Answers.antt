@@ -18,8 +18,10 @@ returns-in_err-write_line g c =
     let at : slice_get rows i ≡ Some row = sym c.line.ensures ∙ ap (option_map row_of) c.in-Some.is in
     let fault = c.in_err-write_line.field-0.0 in
     let same : c.from_residual.result ≡ Err fault = search rules in
-    subst (λ r. Writes (flat_map text rows) (g.O.Sink.tells c.args.out.now) (g.O.Sink.tells c.write_line.new.out) r) (sym same)
-    (left-refused {total = flat_map text rows} {rest = flat_map text (drop i rows)} (text row) (flat_map text (drop (i + 1) rows)) fault c.loop-i.invariant (rest-more text rows i row at)
+    subst (λ r. Writes (flat_map text rows) (g.O.Sink.tells c.args.out.now) (g.O.Sink.tells c.write_line.new.out) r)
+    (sym same)
+    (left-refused {total = flat_map text rows} {rest = flat_map text (drop i rows)} (text row)
+    (flat_map text (drop (i + 1) rows)) fault c.loop-i.invariant (rest-more text rows i row at)
     (c.in_err-write_line.ensures (record { row = row; is_selected = false; begins_group = false }) refl refl))
 
 pub loop-i-preserved : goal.loop-i-preserved
@@ -32,7 +34,9 @@ loop-i-preserved g c =
           let row : Row = row_of w.in-Some.line in
           let at : slice_get rows i ≡ Some row = sym c.line.ensures ∙ ap (option_map row_of) w.in-Some.is in
           rw w.out-is
-          (left-more {total = flat_map text rows} {rest = flat_map text (drop i rows)} (text row) (flat_map text (drop (i + 1) rows)) _ c.loop-i.invariant (rest-more text rows i row at)
+          (left-more {total = flat_map text rows} {rest = flat_map text (drop i rows)} (text row)
+          (flat_map text (drop (i + 1) rows)) _ c.loop-i.invariant (rest-more text rows i row at)
           (w.in_ok-write_line.ensures (record { row = row; is_selected = false; begins_group = false }) refl refl))
-      | in_default w ↦ absurd (is-there rows i (sym c.line.ensures ∙ ap (option_map row_of) w.in_default.is) (omega arith))
+      | in_default w ↦ absurd (is-there rows i (sym c.line.ensures ∙ ap (option_map row_of) w.in_default.is)
+          (omega arith))
     ]

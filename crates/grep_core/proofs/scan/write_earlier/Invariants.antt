@@ -5,5 +5,6 @@ use Rattle.grep_core.proofs.scan.write_earlier.Given as goal
 
 abbrev pub invariant-loop-i : goal.invariant-loop-i
 invariant-loop-i g l =
-    IsLeft (flat_map (line_as l.job.plan.now l.job.name.now false) l.earlier.rows) (flat_map (line_as l.job.plan.now l.job.name.now false) (drop l.i l.earlier.rows))
+    IsLeft (flat_map (line_as l.job.plan.now l.job.name.now false) l.earlier.rows)
+    (flat_map (line_as l.job.plan.now l.job.name.now false) (drop l.i l.earlier.rows))
     (g.O.Sink.tells l.initial.out) (g.O.Sink.tells l.out)

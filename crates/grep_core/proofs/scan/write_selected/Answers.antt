@@ -1,4 +1,5 @@
-use Rattle.std.proofs.Common.{◌≡◌, ◌++◌, List, ℕ, flat_map, true, false, ap, sym, subst, refl, rules, Ok, Err, append_assoc}
+use Rattle.std.proofs.Common.{◌≡◌, ◌++◌, List, ℕ, flat_map, true, false, ap, sym, subst, refl, rules, Ok, Err}
+use Rattle.std.proofs.Common.{append_assoc}
 use Rattle.line_feed.specs.Rows.{Row}
 use Rattle.grep_output.specs.Course.{line_as, separator}
 use Rattle.grep_core.specs.Turns.{course_of}
@@ -18,7 +19,8 @@ returns-in_err-write_separator g c t e =
     let fault = c.in_err-write_separator.field-0.0 in
     let same : c.from_residual.result ≡ Err fault = search rules in
     subst (λ r. Writes (gap t.row ++ before ++ last) old new r) (sym same)
-    (left-refused (gap t.row) (before ++ last) fault (left-all (gap t.row ++ before ++ last) old) (append_assoc (gap t.row) before last)
+    (left-refused (gap t.row) (before ++ last) fault (left-all (gap t.row ++ before ++ last) old)
+    (append_assoc (gap t.row) before last)
     (writes-same (ap gap (sym e)) c.in_err-write_separator.ensures))
 
 pub returns-in_err-write_earlier : goal.returns-in_err-write_earlier
@@ -33,7 +35,8 @@ returns-in_err-write_earlier g c t e =
     let same : c.from_residual-in_err-write_earlier.result ≡ Err fault = search rules in
     subst (λ r. Writes (gap t.row ++ before ++ last) old (g.O.Sink.tells c.write_earlier.new.out) r) (sym same)
     (left-refused before last fault
-    (left-more (gap t.row) (before ++ last) _ (left-all (gap t.row ++ before ++ last) old) (append_assoc (gap t.row) before last)
+    (left-more (gap t.row) (before ++ last) _ (left-all (gap t.row ++ before ++ last) old)
+    (append_assoc (gap t.row) before last)
     (writes-same {result = Ok c.in_ok-write_separator.field-0} (ap gap (sym e)) c.in_ok-write_separator.ensures))
     refl c.in_err-write_earlier.ensures)
 
@@ -47,7 +50,8 @@ returns g c t e =
     let old = g.O.Sink.tells c.args.out.now in
     left-last c.write_line.result
     (left-more before last _
-    (left-more (gap t.row) (before ++ last) _ (left-all (gap t.row ++ before ++ last) old) (append_assoc (gap t.row) before last)
+    (left-more (gap t.row) (before ++ last) _ (left-all (gap t.row ++ before ++ last) old)
+    (append_assoc (gap t.row) before last)
     (writes-same {result = Ok c.in_ok-write_separator.field-0} (ap gap (sym e)) c.in_ok-write_separator.ensures))
     refl c.in_ok-write_earlier.ensures)
     refl (c.write_line.ensures (record { row = t.row; is_selected = true; begins_group = false }) e refl)

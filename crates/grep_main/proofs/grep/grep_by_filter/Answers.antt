@@ -18,8 +18,10 @@ returns-in_err-list-clause-runs g c =
     let now = g.S.Source.tells c.args.io.now.input.now in
     let out = g.O.Sink.tells c.args.io.now.out.now in
     let err = g.E.Sink.tells c.args.io.now.err.now in
-    subst (SearchesFor (sought c.args.plan (Ok (patterns_in c.args.patterns.now)) words) c.args.io.now.is_used (streams files now (printed out err)) (streams files_new now (printed out err))) (sym same)
-    (for-lacks c.args.plan (Ok (patterns_in c.args.patterns.now)) words c.args.io.now.is_used files files_new now out err)
+    subst (SearchesFor (sought c.args.plan (Ok (patterns_in c.args.patterns.now)) words) c.args.io.now.is_used
+    (streams files now (printed out err)) (streams files_new now (printed out err))) (sym same)
+    (for-lacks c.args.plan (Ok (patterns_in c.args.patterns.now)) words c.args.io.now.is_used files files_new now out
+    err)
 
 pub returns-clause-runs : goal.returns-clause-runs
 returns-clause-runs g c =
@@ -36,9 +38,13 @@ returns-clause-runs g c =
     let new = printed (g.O.Sink.tells c.grep_listed.new.io.out.now) (g.E.Sink.tells c.grep_listed.new.io.err.now) in
     let list = c.in_ok-list.list in
     let named : GrepPlan = record plan { names = c.names_for-plan.result } in
-    let told = lists-told files.contents files.faults files_mid.faults plan words list filter c.requires.filter c.in_ok-list.ensures.told c.in_ok-list.ensures.stands c.in_ok-list.ensures.causes in
-    let lists = lists-later files.contents files.faults files_mid.faults files_new.faults plan words list c.grep_listed.ensures.later told in
+    let told = lists-told files.contents files.faults files_mid.faults plan words list filter c.requires.filter
+    c.in_ok-list.ensures.told c.in_ok-list.ensures.stands c.in_ok-list.ensures.causes in
+    let lists = lists-later files.contents files.faults files_mid.faults files_new.faults plan words list
+    c.grep_listed.ensures.later told in
     let names : named ≡ with_names words list plan = search rules in
     let runs = c.grep_listed.ensures.runs in
-    for-listed plan (patterns_in c.args.patterns.now) words used files files_new files_mid.faults filter list named before after old new c.grep_listed.result c.in_ok-list.ensures.later c.requires.filter lists names (rw c.as_slice-2.ensures at c.grep_listed.ensures.unused)
+    for-listed plan (patterns_in c.args.patterns.now) words used files files_new files_mid.faults filter list named
+    before after old new c.grep_listed.result c.in_ok-list.ensures.later c.requires.filter lists names
+    (rw c.as_slice-2.ensures at c.grep_listed.ensures.unused)
     (rw (c.in_ok-list.ensures.same, c.as_slice-2.ensures) at runs)

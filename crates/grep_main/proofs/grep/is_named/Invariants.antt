@@ -5,7 +5,8 @@ use Rattle.grep_main.proofs.grep.is_named.Given as goal
 
 abbrev pub invariant-word : goal.invariant-word
 invariant-word l =
-    list_any (λ word. bytes_eq l.path (word_path word)) (map string_bytes l.rest) ≡ list_any (λ word. bytes_eq l.path (word_path word)) (map string_bytes l.words)
+    list_any (λ word. bytes_eq l.path (word_path word)) (map string_bytes l.rest) ≡ list_any
+    (λ word. bytes_eq l.path (word_path word)) (map string_bytes l.words)
 
 abbrev pub decreases-word : goal.decreases-word
 decreases-word l = length l.rest

@@ -21,19 +21,28 @@ returns-in_err-end-in-Ok-clause-reports g c =
     let stop = c.in_err-end-in-Ok.field-0.0 in
     let same : c.from_residual.result ≡ Err stop = search rules in (
       Some greps.heard,
-      opened-heard (g.F.FileSet.tells c.args.files.now).contents name (g.F.Src.Source.tells c.in-Ok.source) (g.F.Src.Source.tells c.grep_file.new.source) greps.heard c.in-Ok.ensures.opened greps.hears,
-      subst (ReportsTo (report_on plan patterns s (targets.File name) (Some greps.heard)) s c.grep_file.new.state (printed (g.O.Sink.tells c.args.out.now) (g.E.Sink.tells c.args.err.now)) (printed (g.O.Sink.tells c.grep_file.new.out) (g.E.Sink.tells c.grep_file.new.err))) (sym same)
-          (reports-scanned plan patterns s c.grep_file.new.state (targets.File name) greps.heard (printed (g.O.Sink.tells c.args.out.now) (g.E.Sink.tells c.args.err.now)) (printed (g.O.Sink.tells c.grep_file.new.out) (g.E.Sink.tells c.grep_file.new.err)) (Err stop) greps.greps),
-      absent-there (g.F.FileSet.tells c.args.files.now).contents (g.F.FileSet.tells c.args.files.now).faults (g.F.FileSet.tells c.open_file.new.self).faults (targets.File name) greps.heard,
+      opened-heard (g.F.FileSet.tells c.args.files.now).contents name (g.F.Src.Source.tells c.in-Ok.source)
+          (g.F.Src.Source.tells c.grep_file.new.source) greps.heard c.in-Ok.ensures.opened greps.hears,
+      subst (ReportsTo (report_on plan patterns s (targets.File name) (Some greps.heard)) s c.grep_file.new.state
+          (printed (g.O.Sink.tells c.args.out.now) (g.E.Sink.tells c.args.err.now))
+          (printed (g.O.Sink.tells c.grep_file.new.out) (g.E.Sink.tells c.grep_file.new.err))) (sym same)
+          (reports-scanned plan patterns s c.grep_file.new.state (targets.File name) greps.heard
+          (printed (g.O.Sink.tells c.args.out.now) (g.E.Sink.tells c.args.err.now))
+          (printed (g.O.Sink.tells c.grep_file.new.out) (g.E.Sink.tells c.grep_file.new.err)) (Err stop)
+          greps.greps),
+      absent-there (g.F.FileSet.tells c.args.files.now).contents (g.F.FileSet.tells c.args.files.now).faults
+          (g.F.FileSet.tells c.open_file.new.self).faults (targets.File name) greps.heard,
     )
 
 pub returns-in_ok-end-in-Ok-clause-reports : goal.returns-in_ok-end-in-Ok-clause-reports
 returns-in_ok-end-in-Ok-clause-reports g c =
     let greps = c.in_ok-end-in-Ok.ensures in (
       Some greps.heard,
-      opened-heard (g.F.FileSet.tells c.args.files.now).contents c.args.name.now (g.F.Src.Source.tells c.in-Ok.source) (g.F.Src.Source.tells c.grep_file.new.source) greps.heard c.in-Ok.ensures.opened greps.hears,
+      opened-heard (g.F.FileSet.tells c.args.files.now).contents c.args.name.now (g.F.Src.Source.tells c.in-Ok.source)
+          (g.F.Src.Source.tells c.grep_file.new.source) greps.heard c.in-Ok.ensures.opened greps.hears,
       greps.greps,
-      absent-there (g.F.FileSet.tells c.args.files.now).contents (g.F.FileSet.tells c.args.files.now).faults (g.F.FileSet.tells c.open_file.new.self).faults (targets.File c.args.name.now) greps.heard,
+      absent-there (g.F.FileSet.tells c.args.files.now).contents (g.F.FileSet.tells c.args.files.now).faults
+          (g.F.FileSet.tells c.open_file.new.self).faults (targets.File c.args.name.now) greps.heard,
     )
 
 pub returns-in-Err-Failed-clause-reports : goal.returns-in-Err-Failed-clause-reports
@@ -43,10 +52,17 @@ returns-in-Err-Failed-clause-reports g c =
       None,
       opened-missing contents c.args.name.now missing,
       c.pass_over.ensures c.args.state.now (g.O.Sink.tells c.args.out.now),
-      absent-rose contents (g.F.FileSet.tells c.args.files.now).faults (g.F.FileSet.tells c.open_file.new.self).faults (asked (targets.File c.args.name.now) None ∷ []) (c.in-Err-Failed.ensures.cause.failed (search rules)),
+      absent-rose contents (g.F.FileSet.tells c.args.files.now).faults (g.F.FileSet.tells c.open_file.new.self).faults
+          (asked (targets.File c.args.name.now) None ∷ []) (c.in-Err-Failed.ensures.cause.failed (search rules)),
     )
 
 pub returns-in-Err-Memory-clause-reports : goal.returns-in-Err-Memory-clause-reports
 returns-in-Err-Memory-clause-reports g c =
-    let any = opened-any (g.F.FileSet.tells c.args.files.now).contents c.args.name.now in
-    (any.0, any.1, reports-lacks c.args.plan.now (patterns_in c.args.patterns.now) c.args.state.now (targets.File c.args.name.now) any.0 (g.O.Sink.tells c.args.out.now) (g.E.Sink.tells c.args.err.now), opened-there (g.F.FileSet.tells c.args.files.now).contents (g.F.FileSet.tells c.args.files.now).faults (g.F.FileSet.tells c.open_file.new.self).faults c.args.name.now)
+    let any = opened-any (g.F.FileSet.tells c.args.files.now).contents c.args.name.now in (
+      any.0,
+      any.1,
+      reports-lacks c.args.plan.now (patterns_in c.args.patterns.now) c.args.state.now
+          (targets.File c.args.name.now) any.0 (g.O.Sink.tells c.args.out.now) (g.E.Sink.tells c.args.err.now),
+      opened-there (g.F.FileSet.tells c.args.files.now).contents (g.F.FileSet.tells c.args.files.now).faults
+          (g.F.FileSet.tells c.open_file.new.self).faults c.args.name.now,
+    )

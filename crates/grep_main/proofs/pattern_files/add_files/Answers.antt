@@ -9,7 +9,9 @@ loop-i-init g c = record {
   files = refl;
   later = omega arith;
   unused = λ none. refl;
-  adds = adds-none c.args.plan.now (g.F.FileSet.tells c.args.files.now).contents (g.F.FileSet.tells c.args.files.now).faults c.args.is_used.now (g.S.Source.tells c.args.input.now) c.args.texts.now (g.E.Sink.tells c.args.err.now);
+  adds = adds-none c.args.plan.now (g.F.FileSet.tells c.args.files.now).contents
+      (g.F.FileSet.tells c.args.files.now).faults c.args.is_used.now (g.S.Source.tells c.args.input.now)
+      c.args.texts.now (g.E.Sink.tells c.args.err.now);
 }
 
 pub returns-in_err-add_file-clause-adds : goal.returns-in_err-add_file-clause-adds
@@ -35,7 +37,9 @@ returns-in_err-add_file-clause-adds g c =
     let stop = c.in_err-add_file.field-0.0 in
     let same : c.from_residual.result ≡ Err stop = search rules in
     subst (AddsAllFrom plan contents first last was_used is_used before after old new err_old err_new) (sym same)
-    (adds-halts plan contents contents_now first (g.F.FileSet.tells c.loop-i.files).faults last was_used c.loop-i.is_used is_used before now after c.loop-i.i word old c.loop-i.texts new err_old err_mid err_new at had.files had.later c.in_err-add_file.ensures.later had.adds stop c.in_err-add_file.ensures.adds)
+    (adds-halts plan contents contents_now first (g.F.FileSet.tells c.loop-i.files).faults last was_used
+    c.loop-i.is_used is_used before now after c.loop-i.i word old c.loop-i.texts new err_old err_mid err_new at
+    had.files had.later c.in_err-add_file.ensures.later had.adds stop c.in_err-add_file.ensures.adds)
 
 pub returns-then-not-branch-clause-adds : goal.returns-then-not-branch-clause-adds
 returns-then-not-branch-clause-adds g c =
@@ -51,7 +55,10 @@ returns-then-not-branch-clause-adds g c =
     let had = c.loop-i.invariant in
     let word = c.as_str-word.result.now in
     let at = subst (λ w. slice_get plan.pattern_files c.loop-i.i ≡ Some w) (sym c.as_str-word.ensures) c.get.ensures in
-    adds-stops plan contents contents_now (g.F.FileSet.tells c.args.files.now).faults (g.F.FileSet.tells c.loop-i.files).faults (g.F.FileSet.tells c.add_file.new.files).faults c.args.is_used.now c.loop-i.is_used c.add_file.new.is_used before now after c.loop-i.i word c.args.texts.now c.loop-i.texts c.add_file.new.texts err_old err_mid err_new at had.files had.later c.in_ok-add_file.ensures.later had.adds
+    adds-stops plan contents contents_now (g.F.FileSet.tells c.args.files.now).faults
+    (g.F.FileSet.tells c.loop-i.files).faults (g.F.FileSet.tells c.add_file.new.files).faults c.args.is_used.now
+    c.loop-i.is_used c.add_file.new.is_used before now after c.loop-i.i word c.args.texts.now c.loop-i.texts
+    c.add_file.new.texts err_old err_mid err_new at had.files had.later c.in_ok-add_file.ensures.later had.adds
     (rw c.if-not-branch.true at c.in_ok-add_file.ensures.adds)
 
 pub loop-i-preserved : goal.loop-i-preserved
@@ -71,8 +78,12 @@ loop-i-preserved g c =
     record {
       files = c.in_ok-add_file.ensures.files ∙ had.files;
       later = let one = c.in_ok-add_file.ensures.later in let before = had.later in omega (arith, one, before);
-      unused = unasked-more plan.pattern_files c.loop-i.i word at before now after had.unused c.in_ok-add_file.ensures.unused;
-      adds = adds-more plan contents contents_now (g.F.FileSet.tells c.args.files.now).faults (g.F.FileSet.tells c.loop-i.files).faults (g.F.FileSet.tells c.add_file.new.files).faults c.args.is_used.now c.loop-i.is_used c.add_file.new.is_used before now after c.loop-i.i word c.args.texts.now c.loop-i.texts c.add_file.new.texts err_old err_mid err_new at had.files had.later c.in_ok-add_file.ensures.later had.adds
+      unused = unasked-more plan.pattern_files c.loop-i.i word at before now after had.unused
+          c.in_ok-add_file.ensures.unused;
+      adds = adds-more plan contents contents_now (g.F.FileSet.tells c.args.files.now).faults
+          (g.F.FileSet.tells c.loop-i.files).faults (g.F.FileSet.tells c.add_file.new.files).faults c.args.is_used.now
+          c.loop-i.is_used c.add_file.new.is_used before now after c.loop-i.i word c.args.texts.now c.loop-i.texts
+          c.add_file.new.texts err_old err_mid err_new at had.files had.later c.in_ok-add_file.ensures.later had.adds
           (rw c.if-not-branch.false at c.in_ok-add_file.ensures.adds);
     }
 
@@ -81,11 +92,15 @@ returns-in_err-add_file-clause-unused g c =
     let plan = c.args.plan.now in
     let word = c.as_str-word.result.now in
     let at = subst (λ w. slice_get plan.pattern_files c.loop-i.i ≡ Some w) (sym c.as_str-word.ensures) c.get.ensures in
-    unasked-all plan.pattern_files c.loop-i.i word at (g.S.Source.tells c.args.input.now) (g.S.Source.tells c.loop-i.input) (g.S.Source.tells c.add_file.new.input) c.loop-i.invariant.unused c.in_err-add_file.ensures.unused
+    unasked-all plan.pattern_files c.loop-i.i word at (g.S.Source.tells c.args.input.now)
+    (g.S.Source.tells c.loop-i.input) (g.S.Source.tells c.add_file.new.input) c.loop-i.invariant.unused
+    c.in_err-add_file.ensures.unused
 
 pub returns-then-not-branch-clause-unused : goal.returns-then-not-branch-clause-unused
 returns-then-not-branch-clause-unused g c =
     let plan = c.args.plan.now in
     let word = c.as_str-word.result.now in
     let at = subst (λ w. slice_get plan.pattern_files c.loop-i.i ≡ Some w) (sym c.as_str-word.ensures) c.get.ensures in
-    unasked-all plan.pattern_files c.loop-i.i word at (g.S.Source.tells c.args.input.now) (g.S.Source.tells c.loop-i.input) (g.S.Source.tells c.add_file.new.input) c.loop-i.invariant.unused c.in_ok-add_file.ensures.unused
+    unasked-all plan.pattern_files c.loop-i.i word at (g.S.Source.tells c.args.input.now)
+    (g.S.Source.tells c.loop-i.input) (g.S.Source.tells c.add_file.new.input) c.loop-i.invariant.unused
+    c.in_ok-add_file.ensures.unused

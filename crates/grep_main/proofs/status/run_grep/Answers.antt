@@ -16,7 +16,9 @@ returns-in-Ok-clause-text g c =
         (
           given,
           runs.2.2.1,
-          runs-whole (map string_bytes c.args.words.now) given c.in-Ok.status (g.O.Sink.tells c.args.out.now) (g.O.Sink.tells c.grep.new.out) (g.E.Sink.tells c.args.err.now) (g.E.Sink.tells c.grep.new.err) runs.2.2.2,
+          runs-whole (map string_bytes c.args.words.now) given c.in-Ok.status (g.O.Sink.tells c.args.out.now)
+              (g.O.Sink.tells c.grep.new.out) (g.E.Sink.tells c.args.err.now) (g.E.Sink.tells c.grep.new.err)
+              runs.2.2.2,
           record { absent = runs.2.2.3.absent; leaves = λ other. runs.2.2.3.leaves },
           runs.2.2.4,
         ),
@@ -32,7 +34,17 @@ returns-in-Err-Memory-clause-text g c =
     let new = printed (g.O.Sink.tells c.grep.new.out) (g.E.Sink.tells c.grep.new.err) in (
       runs.0,
       runs.1,
-      (runs.2.0, runs.2.1, (given, runs.2.2.1, runs-lacked (text_of words given) old new runs.2.2.2, record { absent = runs.2.2.3.absent; leaves = λ other. absurd (other refl) }, runs.2.2.4)),
+      (
+        runs.2.0,
+        runs.2.1,
+        (
+          given,
+          runs.2.2.1,
+          runs-lacked (text_of words given) old new runs.2.2.2,
+          record { absent = runs.2.2.3.absent; leaves = λ other. absurd (other refl) },
+          runs.2.2.4,
+        ),
+      ),
     )
 
 pub returns-in-Err-SinkFault-clause-text : goal.returns-in-Err-SinkFault-clause-text
@@ -44,7 +56,17 @@ returns-in-Err-SinkFault-clause-text g c =
     let new = printed (g.O.Sink.tells c.grep.new.out) (g.E.Sink.tells c.grep.new.err) in (
       runs.0,
       runs.1,
-      (runs.2.0, runs.2.1, (given, runs.2.2.1, runs-refused (text_of words given) old new runs.2.2.2, record { absent = runs.2.2.3.absent; leaves = λ other. runs.2.2.3.leaves }, runs.2.2.4)),
+      (
+        runs.2.0,
+        runs.2.1,
+        (
+          given,
+          runs.2.2.1,
+          runs-refused (text_of words given) old new runs.2.2.2,
+          record { absent = runs.2.2.3.absent; leaves = λ other. runs.2.2.3.leaves },
+          runs.2.2.4,
+        ),
+      ),
     )
 
 pub returns-in-Err-TooManyErrors-clause-text : goal.returns-in-Err-TooManyErrors-clause-text
@@ -56,5 +78,15 @@ returns-in-Err-TooManyErrors-clause-text g c =
     let new = printed (g.O.Sink.tells c.grep.new.out) (g.E.Sink.tells c.grep.new.err) in (
       runs.0,
       runs.1,
-      (runs.2.0, runs.2.1, (given, runs.2.2.1, runs-many (text_of words given) old new runs.2.2.2, record { absent = runs.2.2.3.absent; leaves = λ other. runs.2.2.3.leaves }, runs.2.2.4)),
+      (
+        runs.2.0,
+        runs.2.1,
+        (
+          given,
+          runs.2.2.1,
+          runs-many (text_of words given) old new runs.2.2.2,
+          record { absent = runs.2.2.3.absent; leaves = λ other. runs.2.2.3.leaves },
+          runs.2.2.4,
+        ),
+      ),
     )

@@ -7,5 +7,7 @@ use Rattle.grep_match.proofs.unsearched.needed_text.Goals as goal
 
 pub returns-in-Some : goal.returns-in-Some
 returns-in-Some c =
-    are_needed c.args.plan.now c.limits-matching.result (patterns_in c.args.patterns.now) c.in-Some.needed c.limits-matching.ensures
-    (subst (λ (codes : List CodeParts). NoneAnswers c.limits-matching.result (patterns_in codes) c.in-Some.needed) c.codes-codes.ensures c.in-Some.ensures)
+    are_needed c.args.plan.now c.limits-matching.result (patterns_in c.args.patterns.now) c.in-Some.needed
+    c.limits-matching.ensures
+    (subst (λ (codes : List CodeParts). NoneAnswers c.limits-matching.result (patterns_in codes) c.in-Some.needed)
+    c.codes-codes.ensures c.in-Some.ensures)

@@ -11,8 +11,13 @@ loop-code-init c = λ line without. refl
 pub loop-code-preserved : goal.loop-code-preserved
 loop-code-preserved c =
     let some : Needed = record { text = c.loop-code.text; most = c.args.most; utf = c.loop-code.utf } in
-    let all : Needed = record { text = c.either-text.result; most = c.args.most; utf = c.loop-code.utf || c.options.result.now.utf } in
-    next_none c.args.matching.now c.args.codes.now c.loop-code.code-index c.code-item.result all some (sets_of c.in-Some.more)
+    let all : Needed = record {
+      text = c.either-text.result;
+      most = c.args.most;
+      utf = c.loop-code.utf || c.options.result.now.utf;
+    } in
+    next_none c.args.matching.now c.args.codes.now c.loop-code.code-index c.code-item.result all some
+    (sets_of c.in-Some.more)
     c.loop-code-test.true c.code-item.is (rw c.in-Some.is at c.needed.ensures) c.either-text.ensures refl
     (ap (λ (o : Options). c.loop-code.utf || o.utf) c.options.ensures) c.loop-code.invariant
 

@@ -9,4 +9,5 @@ pub returns-in-Ok-Some : goal.returns-in-Ok-Some
 returns-in-Ok-Some c =
     let wider = c.in-Ok-Some.wider in
     are_wider c.args.plan.now c.limits-matching.result (patterns_in c.args.patterns.now) wider c.limits-matching.ensures
-    (subst (λ (codes : List CodeParts). NoneMatches c.limits-matching.result (patterns_in codes) wider) c.codes.ensures (rw c.in-Ok-Some.field-0-is at (rw c.in-Ok-Some.is at c.wider_within.ensures)))
+    (subst (λ (codes : List CodeParts). NoneMatches c.limits-matching.result (patterns_in codes) wider)
+    c.codes.ensures (rw c.in-Ok-Some.field-0-is at (rw c.in-Ok-Some.is at c.wider_within.ensures)))

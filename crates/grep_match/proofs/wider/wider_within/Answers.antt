@@ -11,10 +11,14 @@ loop-code-init c = λ before line after lacks. refl
 
 pub loop-code-preserved : goal.loop-code-preserved
 loop-code-preserved c =
-    next_misses c.args.matching.now c.args.codes.now c.loop-code.code-index c.code-item.result c.args.most c.loop-code.branches.items c.push.new.branches.items c.in-Some.hir c.loop-code.utf (c.loop-code.utf || c.options.result.now.utf)
-    c.loop-code-test.true c.code-item.is (rw c.in-Some.is at c.in_ok-hir.ensures) c.in_ok-push.ensures (ap (λ (o : Options). c.loop-code.utf || o.utf) c.options.ensures) c.loop-code.invariant
+    next_misses c.args.matching.now c.args.codes.now c.loop-code.code-index c.code-item.result c.args.most
+    c.loop-code.branches.items c.push.new.branches.items c.in-Some.hir c.loop-code.utf
+    (c.loop-code.utf || c.options.result.now.utf)
+    c.loop-code-test.true c.code-item.is (rw c.in-Some.is at c.in_ok-hir.ensures) c.in_ok-push.ensures
+    (ap (λ (o : Options). c.loop-code.utf || o.utf) c.options.ensures) c.loop-code.invariant
 
 pub returns : goal.returns
 returns c =
     let wider : Wider = record { hir = Alternation c.loop-code.branches; most = c.args.most; utf = c.loop-code.utf } in
-    all_miss c.args.matching.now c.args.codes.now c.loop-code.code-index wider c.loop-code.branches.items (omega arith) (meaning-Alternation c.loop-code.branches) c.loop-code.invariant
+    all_miss c.args.matching.now c.args.codes.now c.loop-code.code-index wider c.loop-code.branches.items
+    (omega arith) (meaning-Alternation c.loop-code.branches) c.loop-code.invariant

@@ -6,5 +6,6 @@ use Rattle.grep_output.proofs.parts.write_groups.Given as goal
 
 abbrev pub invariant-loop-group : goal.invariant-loop-group
 invariant-loop-group g l =
-    IsLeft (joined l.separator (set_texts l.bytes l.groups)) (joined_from l.is_later l.separator (set_texts l.bytes (drop l.group-index l.groups)))
+    IsLeft (joined l.separator (set_texts l.bytes l.groups))
+    (joined_from l.is_later l.separator (set_texts l.bytes (drop l.group-index l.groups)))
     (g.O.Sink.tells l.initial.out) (g.O.Sink.tells l.out)

@@ -10,5 +10,6 @@ abbrev pub invariant-loop-i : goal.invariant-loop-i
 invariant-loop-i g l =
     (os : List Outcome) → Lists l.plan.only_matching (length l.line.bytes.now) l.found os
     → (l.groups ≡ flat_map (groups_of l.plan.only_matching) (drop l.i os))
-    × IsLeft (flat_map (match_text l.plan l.name l.plan.offsets (row_of l.line)) os) (flat_map (match_text l.plan l.name l.plan.offsets (row_of l.line)) (drop l.i os))
+    × IsLeft (flat_map (match_text l.plan l.name l.plan.offsets (row_of l.line)) os)
+    (flat_map (match_text l.plan l.name l.plan.offsets (row_of l.line)) (drop l.i os))
     (g.O.Sink.tells l.initial.out) (g.O.Sink.tells l.out)

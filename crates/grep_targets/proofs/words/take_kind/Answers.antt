@@ -6,5 +6,6 @@ use Rattle.grep_targets.proofs.words.take_kind.Goals as goal
 
 pub returns-in_ok-text_from-in-Dir-clause-stands : goal.returns-in_ok-text_from-in-Dir-clause-stands
 returns-in_ok-text_from-in-Dir-clause-stands g c =
-    subst (λ k. OnOk c.walk.result (GrowsBy (AreOfKind (filter_in c.args.filter.now) c.args.path.now (Some k)) c.args.told.now c.walk.new.told)) (sym c.in-Dir.is)
+    subst (λ k. OnOk c.walk.result (GrowsBy (AreOfKind (filter_in c.args.filter.now) c.args.path.now (Some k))
+    c.args.told.now c.walk.new.told)) (sym c.in-Dir.is)
     (rw c.in_ok-text_from-in-Dir.ensures at c.walk.ensures.stands)

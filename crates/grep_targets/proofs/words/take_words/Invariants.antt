@@ -9,8 +9,10 @@ use Rattle.grep_targets.proofs.words.take_words.Given as goal
 abbrev pub invariant-word : goal.invariant-word
 invariant-word g l = record {
   told : IfSome (g.F.FileSet.tells l.initial.files).contents (λ set.
-      l.told ++ flat_map (word_targets (filter_in l.filter) set l.recursive) (map string_bytes l.rest) ≡ flat_map (word_targets (filter_in l.filter) set l.recursive) (map string_bytes l.words));
-  leads : Leads (AreOfWord l.recursive (filter_in l.filter)) (map string_bytes l.words) (map string_bytes l.rest) l.told;
+      l.told ++ flat_map (word_targets (filter_in l.filter) set l.recursive) (map string_bytes l.rest) ≡ flat_map
+      (word_targets (filter_in l.filter) set l.recursive) (map string_bytes l.words));
+  leads : Leads (AreOfWord l.recursive (filter_in l.filter)) (map string_bytes l.words) (map string_bytes l.rest)
+      l.told;
   causes : HasCauses [] l.told (g.F.FileSet.tells l.initial.files).faults (g.F.FileSet.tells l.files).faults;
   same : (g.F.FileSet.tells l.files).contents ≡ (g.F.FileSet.tells l.initial.files).contents;
   later : (g.F.FileSet.tells l.initial.files).faults ≤ (g.F.FileSet.tells l.files).faults;

@@ -3,12 +3,15 @@ use Rattle.pat_tree.specs.Growing.{loose, loose_after, without}
 use Rattle.item_tests.proofs.flows.add_branches.Goals as goal
 
 -- one more, which takes these
-step : (old new ks taken : List ℕ) (n m : ℕ) (before after : List ℕ) → new ≡ without ks old ++ n ∷ [] → ks ≡ taken → old ≡ before → n ≡ m → without taken before ++ m ∷ [] ≡ after → new ≡ after
+step : (old new ks taken : List ℕ) (n m : ℕ) (before after : List ℕ) → new ≡ without ks old ++ n ∷ [] → ks ≡ taken
+    → old ≡ before → n ≡ m → without taken before ++ m ∷ [] ≡ after → new ≡ after
 step old new ks taken n m before after e k f g h =
-    e ∙ ap (λ xs. without xs old ++ n ∷ []) k ∙ ap (λ xs. without taken xs ++ n ∷ []) f ∙ ap (λ i. without taken before ++ i ∷ []) g ∙ h
+    e ∙ ap (λ xs. without xs old ++ n ∷ []) k ∙ ap (λ xs. without taken xs ++ n ∷ []) f
+    ∙ ap (λ i. without taken before ++ i ∷ []) g ∙ h
 
 -- and one that takes none
-plus : (old new : List ℕ) (n m : ℕ) (before after : List ℕ) → new ≡ old ++ n ∷ [] → old ≡ before → n ≡ m → before ++ m ∷ [] ≡ after → new ≡ after
+plus : (old new : List ℕ) (n m : ℕ) (before after : List ℕ) → new ≡ old ++ n ∷ [] → old ≡ before → n ≡ m
+    → before ++ m ∷ [] ≡ after → new ≡ after
 plus old new n m before after e f g h = e ∙ ap (λ xs. xs ++ n ∷ []) f ∙ ap (λ i. before ++ i ∷ []) g ∙ h
 
 two : (kids : List ℕ) (a b n m : ℕ) → kids ≡ a ∷ b ∷ [] → a ≡ n → b ≡ m → kids ≡ n ∷ m ∷ []
@@ -32,8 +35,10 @@ returns-clause-loose c =
     let d : c.in_ok-d.d ≡ 5 = c.in_ok-d.ensures.number ∙ n5 in
     let l1 = plus _ _ _ 0 [] (0 ∷ []) c.in_ok-a.ensures.loose none n0 refl in
     let l2 = plus _ _ _ 1 (0 ∷ []) (0 ∷ 1 ∷ []) c.in_ok-b.ensures.loose l1 n1 refl in
-    let l3 = step _ _ _ (0 ∷ 1 ∷ []) _ 2 (0 ∷ 1 ∷ []) (2 ∷ []) c.in_ok-body.ensures.loose (two _ _ _ 0 1 c.in_ok-pair.ensures a b) l2 n2 refl in
+    let l3 = step _ _ _ (0 ∷ 1 ∷ []) _ 2 (0 ∷ 1 ∷ []) (2 ∷ []) c.in_ok-body.ensures.loose
+    (two _ _ _ 0 1 c.in_ok-pair.ensures a b) l2 n2 refl in
     let l4 = step _ _ _ (2 ∷ []) _ 3 (2 ∷ []) (3 ∷ []) c.in_ok-first.ensures.loose (ap (λ k. k ∷ []) body) l3 n3 refl in
     let l5 = plus _ _ _ 4 (3 ∷ []) (3 ∷ 4 ∷ []) c.in_ok-c.ensures.loose l4 n4 refl in
     let l6 = plus _ _ _ 5 (3 ∷ 4 ∷ []) (3 ∷ 4 ∷ 5 ∷ []) c.in_ok-d.ensures.loose l5 n5 refl in
-    step _ _ _ (4 ∷ 5 ∷ []) _ 6 (3 ∷ 4 ∷ 5 ∷ []) (3 ∷ 6 ∷ []) c.in_ok-second.ensures.loose (two _ _ _ 4 5 c.in_ok-pair-2.ensures c4 d) l6 n6 refl
+    step _ _ _ (4 ∷ 5 ∷ []) _ 6 (3 ∷ 4 ∷ 5 ∷ []) (3 ∷ 6 ∷ []) c.in_ok-second.ensures.loose
+    (two _ _ _ 4 5 c.in_ok-pair-2.ensures c4 d) l6 n6 refl

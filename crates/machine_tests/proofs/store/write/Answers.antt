@@ -12,7 +12,9 @@ returns-clause-slots c =
     let older = c.args.store.now.records in
     let regs = c.args.registers.now in
     let pushed : c.push.new.self.records ≡ r ∷ older = c.in_ok-push.ensures.pushed in
-    let kept = AllHaveSlots-undo regs r older c.make_record.ensures.kind (rw c.make_record.ensures.slot c.requires.group) c.requires.slots in
-    let same : length c.set_captured.new.registers ≡ length regs = ap length c.set_captured.ensures ∙ length-set regs _ c.args.value in
+    let kept = AllHaveSlots-undo regs r older c.make_record.ensures.kind
+    (rw c.make_record.ensures.slot c.requires.group) c.requires.slots in
+    let same : length c.set_captured.new.registers ≡ length regs = ap length c.set_captured.ensures
+    ∙ length-set regs _ c.args.value in
     AllHaveSlots-same regs c.set_captured.new.registers (entries c.push.new.self.records) same
     (subst (λ (rs : List Record). All (HasSlot regs) (entries rs)) (sym pushed) kept)

@@ -8,7 +8,8 @@ loop-step-init c =
     let new = c.new-draft.ensures in
     let none = ap (λ (d : DraftParts). length d.nodes) new in
     record {
-      made = rw c.new-waiting.ensures.items (made_none c.new-draft.result (ap (λ (d : DraftParts). d.nodes) new) (ap (λ (d : DraftParts). d.options.utf) new)
+      made = rw c.new-waiting.ensures.items (made_none c.new-draft.result (ap (λ (d : DraftParts). d.nodes) new)
+          (ap (λ (d : DraftParts). d.options.utf) new)
           (ap (λ (d : DraftParts). d.classes) new) (ap (λ (d : DraftParts). d.names) new));
       count = omega (arith, none);
     }

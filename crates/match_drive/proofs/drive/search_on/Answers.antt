@@ -19,8 +19,11 @@ use Rattle.match_drive.proofs.drive.search_on.Goals as goal
 pub places-init : goal.places-init
 places-init g c =
     let x = c.args.on.now in
-    let s = replied (g.S.Driven.asked x (g.C.Callouts.answers c.args.calls.now)).reply (g.S.Driven.asked x passed_over) in
-    let next : IsNextTried s (Some s.start) c.next_tried-next.result = subst (λ p. IsNextTried s (Some p) c.next_tried-next.result) c.start.ensures (c.next_tried-next.ensures.tried s.reply) in
+    let s = replied (g.S.Driven.asked x (g.C.Callouts.answers c.args.calls.now)).reply
+    (g.S.Driven.asked x passed_over) in
+    let next : IsNextTried s (Some s.start) c.next_tried-next.result =
+    subst (λ p. IsNextTried s (Some p) c.next_tried-next.result) c.start.ensures
+    (c.next_tried-next.ensures.tried s.reply) in
     record {
       left = walk_begins s (g.met.S.Driven.start_is x c.requires).within _ c.next_tried-next.result (search rules) next;
       begun = tried_from s s.start c.next_tried-next.result next;
@@ -31,7 +34,8 @@ places-init g c =
       groups = search rules;
       frames = search rules;
       rule = λ block. refl;
-      seen = shown_first s (g.met.S.Driven.start_is x c.requires).within c.next_tried-next.result (g.C.Callouts.seen c.args.calls.now) next;
+      seen = shown_first s (g.met.S.Driven.start_is x c.requires).within c.next_tried-next.result
+          (g.C.Callouts.seen c.args.calls.now) next;
     }
 
 pub returns-in_default-answer-clause-answer : goal.returns-in_default-answer-clause-answer
@@ -40,13 +44,19 @@ returns-in_default-answer-clause-answer g c =
     let first = g.C.Callouts.answers c.args.calls.now in
     let s = replied (g.S.Driven.asked x first).reply (g.S.Driven.asked x passed_over) in
     let e : g.S.Driven.asked x (g.C.Callouts.answers c.places.calls) ≡ s =
-    asked_alike (g.S.Driven.asked x) (g.S.Driven.asked x passed_over) first (g.C.Callouts.answers c.places.calls) c.places.invariant.rule (g.met.S.Driven.alike x first) in
-    subst (λ (t : Setting). IsMatchAnswer c.decided.result c.try_at-answer.new.scratch.spans (match_answer t)) (sym (g.met.S.Driven.alike x first))
-    (walk_ends s (g.met.S.Driven.start_is x c.requires).within (match_answer s) c.places.first c.places.scratch.last_mark c.places.next c.in-Some.place c.in-Some.is
-    c.places.invariant.left c.places.invariant.within c.places.invariant.not_excluded c.try_at-answer.new.scratch.spans c.try_at-answer.result
+    asked_alike (g.S.Driven.asked x) (g.S.Driven.asked x passed_over) first (g.C.Callouts.answers c.places.calls)
+    c.places.invariant.rule (g.met.S.Driven.alike x first) in
+    subst (λ (t : Setting). IsMatchAnswer c.decided.result c.try_at-answer.new.scratch.spans (match_answer t))
+    (sym (g.met.S.Driven.alike x first))
+    (walk_ends s (g.met.S.Driven.start_is x c.requires).within (match_answer s) c.places.first
+    c.places.scratch.last_mark c.places.next c.in-Some.place c.in-Some.is
+    c.places.invariant.left c.places.invariant.within c.places.invariant.not_excluded
+    c.try_at-answer.new.scratch.spans c.try_at-answer.result
     c.try_at-answer.new.scratch.last_mark c.last_mark.result c.decided.result
-    (subst (λ (t : Setting). IsAnswer c.try_at-answer.result c.try_at-answer.new.scratch.spans (place_answer t c.in-Some.place)) e c.try_at-answer.ensures.answer)
-    (subst (λ (t : Setting). IsMark c.try_at-answer.result c.places.scratch.last_mark c.try_at-answer.new.scratch.last_mark (place_answer t c.in-Some.place)) e c.try_at-answer.ensures.mark)
+    (subst (λ (t : Setting). IsAnswer c.try_at-answer.result c.try_at-answer.new.scratch.spans
+    (place_answer t c.in-Some.place)) e c.try_at-answer.ensures.answer)
+    (subst (λ (t : Setting). IsMark c.try_at-answer.result c.places.scratch.last_mark
+    c.try_at-answer.new.scratch.last_mark (place_answer t c.in-Some.place)) e c.try_at-answer.ensures.mark)
     c.last_mark.ensures c.decided.ensures.tells).0
 
 pub returns-in_default-answer-clause-last_mark : goal.returns-in_default-answer-clause-last_mark
@@ -55,13 +65,19 @@ returns-in_default-answer-clause-last_mark g c =
     let first = g.C.Callouts.answers c.args.calls.now in
     let s = replied (g.S.Driven.asked x first).reply (g.S.Driven.asked x passed_over) in
     let e : g.S.Driven.asked x (g.C.Callouts.answers c.places.calls) ≡ s =
-    asked_alike (g.S.Driven.asked x) (g.S.Driven.asked x passed_over) first (g.C.Callouts.answers c.places.calls) c.places.invariant.rule (g.met.S.Driven.alike x first) in
-    subst (λ (t : Setting). IsLastMark c.decided.result c.try_at-answer.new.scratch.last_mark (match_answer t)) (sym (g.met.S.Driven.alike x first))
-    (walk_ends s (g.met.S.Driven.start_is x c.requires).within (match_answer s) c.places.first c.places.scratch.last_mark c.places.next c.in-Some.place c.in-Some.is
-    c.places.invariant.left c.places.invariant.within c.places.invariant.not_excluded c.try_at-answer.new.scratch.spans c.try_at-answer.result
+    asked_alike (g.S.Driven.asked x) (g.S.Driven.asked x passed_over) first (g.C.Callouts.answers c.places.calls)
+    c.places.invariant.rule (g.met.S.Driven.alike x first) in
+    subst (λ (t : Setting). IsLastMark c.decided.result c.try_at-answer.new.scratch.last_mark (match_answer t))
+    (sym (g.met.S.Driven.alike x first))
+    (walk_ends s (g.met.S.Driven.start_is x c.requires).within (match_answer s) c.places.first
+    c.places.scratch.last_mark c.places.next c.in-Some.place c.in-Some.is
+    c.places.invariant.left c.places.invariant.within c.places.invariant.not_excluded
+    c.try_at-answer.new.scratch.spans c.try_at-answer.result
     c.try_at-answer.new.scratch.last_mark c.last_mark.result c.decided.result
-    (subst (λ (t : Setting). IsAnswer c.try_at-answer.result c.try_at-answer.new.scratch.spans (place_answer t c.in-Some.place)) e c.try_at-answer.ensures.answer)
-    (subst (λ (t : Setting). IsMark c.try_at-answer.result c.places.scratch.last_mark c.try_at-answer.new.scratch.last_mark (place_answer t c.in-Some.place)) e c.try_at-answer.ensures.mark)
+    (subst (λ (t : Setting). IsAnswer c.try_at-answer.result c.try_at-answer.new.scratch.spans
+    (place_answer t c.in-Some.place)) e c.try_at-answer.ensures.answer)
+    (subst (λ (t : Setting). IsMark c.try_at-answer.result c.places.scratch.last_mark
+    c.try_at-answer.new.scratch.last_mark (place_answer t c.in-Some.place)) e c.try_at-answer.ensures.mark)
     c.last_mark.ensures c.decided.ensures.tells).1
 
 pub returns-in_default-answer-clause-whole : goal.returns-in_default-answer-clause-whole
@@ -70,7 +86,8 @@ returns-in_default-answer-clause-whole g c off =
     let first = g.C.Callouts.answers c.args.calls.now in
     let s = replied (g.S.Driven.asked x first).reply (g.S.Driven.asked x passed_over) in
     none_told s off c.decided.result c.try_at-answer.new.scratch.spans
-    (subst (λ (t : Setting). IsMatchAnswer c.decided.result c.try_at-answer.new.scratch.spans (match_answer t)) (g.met.S.Driven.alike x first) (returns-in_default-answer-clause-answer g c))
+    (subst (λ (t : Setting). IsMatchAnswer c.decided.result c.try_at-answer.new.scratch.spans (match_answer t))
+    (g.met.S.Driven.alike x first) (returns-in_default-answer-clause-answer g c))
 
 pub returns-in_default-answer-clause-seen : goal.returns-in_default-answer-clause-seen
 returns-in_default-answer-clause-seen g c =
@@ -78,12 +95,19 @@ returns-in_default-answer-clause-seen g c =
     let first = g.C.Callouts.answers c.args.calls.now in
     let s = replied (g.S.Driven.asked x first).reply (g.S.Driven.asked x passed_over) in
     let e : g.S.Driven.asked x (g.C.Callouts.answers c.places.calls) ≡ s =
-    asked_alike (g.S.Driven.asked x) (g.S.Driven.asked x passed_over) first (g.C.Callouts.answers c.places.calls) c.places.invariant.rule (g.met.S.Driven.alike x first) in
-    subst (λ (t : Setting). IsShown c.decided.result (g.C.Callouts.seen c.args.calls.now) (g.C.Callouts.seen c.try_at-answer.new.calls) (match_answer t)) (sym (g.met.S.Driven.alike x first))
-    (shown_at_last s (g.met.S.Driven.start_is x c.requires).within (match_answer s) c.places.next c.in-Some.place c.in-Some.is c.places.invariant.within c.places.invariant.not_excluded
-    c.try_at-answer.new.scratch.spans _ _ _ c.places.invariant.seen c.try_at-answer.result c.decided.result (decides c.try_at-answer.result c.in_default-answer.not-Failed)
-    (subst (λ (t : Setting). IsAnswer c.try_at-answer.result c.try_at-answer.new.scratch.spans (place_answer t c.in-Some.place)) e c.try_at-answer.ensures.answer)
-    (subst (λ (t : Setting). IsSeen c.try_at-answer.result (g.C.Callouts.seen c.places.calls) (g.C.Callouts.seen c.try_at-answer.new.calls) (place_answer t c.in-Some.place)) e c.try_at-answer.ensures.seen)
+    asked_alike (g.S.Driven.asked x) (g.S.Driven.asked x passed_over) first (g.C.Callouts.answers c.places.calls)
+    c.places.invariant.rule (g.met.S.Driven.alike x first) in
+    subst (λ (t : Setting). IsShown c.decided.result (g.C.Callouts.seen c.args.calls.now)
+    (g.C.Callouts.seen c.try_at-answer.new.calls) (match_answer t)) (sym (g.met.S.Driven.alike x first))
+    (shown_at_last s (g.met.S.Driven.start_is x c.requires).within (match_answer s) c.places.next c.in-Some.place
+    c.in-Some.is c.places.invariant.within c.places.invariant.not_excluded
+    c.try_at-answer.new.scratch.spans _ _ _ c.places.invariant.seen c.try_at-answer.result c.decided.result
+    (decides c.try_at-answer.result c.in_default-answer.not-Failed)
+    (subst (λ (t : Setting). IsAnswer c.try_at-answer.result c.try_at-answer.new.scratch.spans
+    (place_answer t c.in-Some.place)) e c.try_at-answer.ensures.answer)
+    (subst (λ (t : Setting). IsSeen c.try_at-answer.result (g.C.Callouts.seen c.places.calls)
+    (g.C.Callouts.seen c.try_at-answer.new.calls) (place_answer t c.in-Some.place)) e
+    c.try_at-answer.ensures.seen)
     c.decided.ensures.memory)
 
 pub returns-clause-seen : goal.returns-clause-seen
@@ -91,7 +115,8 @@ returns-clause-seen g c =
     let x = c.args.on.now in
     let first = g.C.Callouts.answers c.args.calls.now in
     let s = replied (g.S.Driven.asked x first).reply (g.S.Driven.asked x passed_over) in
-    subst (λ (t : Setting). IsShown c.undecided.result (g.C.Callouts.seen c.args.calls.now) (g.C.Callouts.seen c.places.calls) (match_answer t)) (sym (g.met.S.Driven.alike x first))
+    subst (λ (t : Setting). IsShown c.undecided.result (g.C.Callouts.seen c.args.calls.now)
+    (g.C.Callouts.seen c.places.calls) (match_answer t)) (sym (g.met.S.Driven.alike x first))
     (shown_none c.undecided.result _ _ (match_answer s) none_found (rw c.in_default.is at c.places.invariant.seen) refl)
 
 pub returns-clause-answer : goal.returns-clause-answer
@@ -99,8 +124,10 @@ returns-clause-answer g c =
     let x = c.args.on.now in
     let first = g.C.Callouts.answers c.args.calls.now in
     let s = replied (g.S.Driven.asked x first).reply (g.S.Driven.asked x passed_over) in
-    let left = subst (λ (m : Option ℕ). IsLeft (match_answer s) c.places.first m none_found) (sym c.last_mark-2.ensures) (rw c.in_default.is at c.places.invariant.left) in
-    subst (λ (t : Setting). IsMatchAnswer c.undecided.result c.places.scratch.spans (match_answer t)) (sym (g.met.S.Driven.alike x first))
+    let left = subst (λ (m : Option ℕ). IsLeft (match_answer s) c.places.first m none_found)
+    (sym c.last_mark-2.ensures) (rw c.in_default.is at c.places.invariant.left) in
+    subst (λ (t : Setting). IsMatchAnswer c.undecided.result c.places.scratch.spans (match_answer t))
+    (sym (g.met.S.Driven.alike x first))
     (c.undecided.ensures.tells c.places.scratch.spans (match_answer s) left).0
 
 pub returns-clause-last_mark : goal.returns-clause-last_mark
@@ -108,9 +135,12 @@ returns-clause-last_mark g c =
     let x = c.args.on.now in
     let first = g.C.Callouts.answers c.args.calls.now in
     let s = replied (g.S.Driven.asked x first).reply (g.S.Driven.asked x passed_over) in
-    let left = subst (λ (m : Option ℕ). IsLeft (match_answer s) c.places.first m none_found) (sym c.last_mark-2.ensures) (rw c.in_default.is at c.places.invariant.left) in
-    subst (λ (t : Setting). IsLastMark c.undecided.result c.places.scratch.last_mark (match_answer t)) (sym (g.met.S.Driven.alike x first))
-    (subst (λ (m : Option ℕ). IsLastMark c.undecided.result m (match_answer s)) c.last_mark-2.ensures (c.undecided.ensures.tells c.places.scratch.spans (match_answer s) left).1)
+    let left = subst (λ (m : Option ℕ). IsLeft (match_answer s) c.places.first m none_found)
+    (sym c.last_mark-2.ensures) (rw c.in_default.is at c.places.invariant.left) in
+    subst (λ (t : Setting). IsLastMark c.undecided.result c.places.scratch.last_mark (match_answer t))
+    (sym (g.met.S.Driven.alike x first))
+    (subst (λ (m : Option ℕ). IsLastMark c.undecided.result m (match_answer s)) c.last_mark-2.ensures
+    (c.undecided.ensures.tells c.places.scratch.spans (match_answer s) left).1)
 
 pub returns-clause-whole : goal.returns-clause-whole
 returns-clause-whole g c off =
@@ -118,7 +148,8 @@ returns-clause-whole g c off =
     let first = g.C.Callouts.answers c.args.calls.now in
     let s = replied (g.S.Driven.asked x first).reply (g.S.Driven.asked x passed_over) in
     none_told s off c.undecided.result c.places.scratch.spans
-    (subst (λ (t : Setting). IsMatchAnswer c.undecided.result c.places.scratch.spans (match_answer t)) (g.met.S.Driven.alike x first) (returns-clause-answer g c))
+    (subst (λ (t : Setting). IsMatchAnswer c.undecided.result c.places.scratch.spans (match_answer t))
+    (g.met.S.Driven.alike x first) (returns-clause-answer g c))
 
 pub places-smaller : goal.places-smaller
 places-smaller g c =
@@ -126,7 +157,8 @@ places-smaller g c =
     let s = g.S.Driven.asked x passed_over in
     let high : last_place s ≤ length s.subject = last_within s (g.met.S.Driven.start_is x c.requires).within in
     let low : c.in-Some.place ≤ last_place s = rw c.in-Some.is at c.places.invariant.within in
-    left_less (length s.subject) c.in-Some.place c.places.next c.next_tried-next-in-Some.result c.in-Some.is (omega (arith, high, low))
+    left_less (length s.subject) c.in-Some.place c.places.next c.next_tried-next-in-Some.result c.in-Some.is
+    (omega (arith, high, low))
     (tried_later (replied s.reply s) c.place_past.result c.next_tried-next-in-Some.result
     c.in-Some.place (c.next_tried-next-in-Some.ensures.tried s.reply) c.place_past.ensures.later)
 
@@ -136,17 +168,22 @@ places-preserved g c =
     let first = g.C.Callouts.answers c.args.calls.now in
     let s = replied (g.S.Driven.asked x first).reply (g.S.Driven.asked x passed_over) in
     let e : g.S.Driven.asked x (g.C.Callouts.answers c.places.calls) ≡ s =
-    asked_alike (g.S.Driven.asked x) (g.S.Driven.asked x passed_over) first (g.C.Callouts.answers c.places.calls) c.places.invariant.rule (g.met.S.Driven.alike x first) in
+    asked_alike (g.S.Driven.asked x) (g.S.Driven.asked x passed_over) first (g.C.Callouts.answers c.places.calls)
+    c.places.invariant.rule (g.met.S.Driven.alike x first) in
     let next = c.next_tried-next-in-Some.ensures.tried s.reply in
     let begun : s.start ≤ c.in-Some.place = rw c.in-Some.is at c.places.invariant.begun in
     record {
       left =
-          walk_on s (g.met.S.Driven.start_is x c.requires).within (match_answer s) c.places.first c.places.scratch.last_mark c.places.next c.in-Some.place c.in-Some.is
-          c.places.invariant.left c.places.invariant.within c.places.invariant.not_excluded c.try_at-answer.new.scratch.spans c.in-Failed.signal c.in-Failed.hit_end
+          walk_on s (g.met.S.Driven.start_is x c.requires).within (match_answer s) c.places.first
+          c.places.scratch.last_mark c.places.next c.in-Some.place c.in-Some.is
+          c.places.invariant.left c.places.invariant.within c.places.invariant.not_excluded
+          c.try_at-answer.new.scratch.spans c.in-Failed.signal c.in-Failed.hit_end
           c.try_at-answer.new.scratch.last_mark c.first_hit-first.result c.place_past.result
           c.next_tried-next-in-Some.result
-          (subst (λ (t : Setting). IsAnswer (Failed c.in-Failed.signal c.in-Failed.hit_end) c.try_at-answer.new.scratch.spans (place_answer t c.in-Some.place)) e c.in-Failed.ensures.answer)
-          (subst (λ (t : Setting). IsMark (Failed c.in-Failed.signal c.in-Failed.hit_end) c.places.scratch.last_mark c.try_at-answer.new.scratch.last_mark (place_answer t c.in-Some.place)) e c.in-Failed.ensures.mark)
+          (subst (λ (t : Setting). IsAnswer (Failed c.in-Failed.signal c.in-Failed.hit_end)
+          c.try_at-answer.new.scratch.spans (place_answer t c.in-Some.place)) e c.in-Failed.ensures.answer)
+          (subst (λ (t : Setting). IsMark (Failed c.in-Failed.signal c.in-Failed.hit_end) c.places.scratch.last_mark
+          c.try_at-answer.new.scratch.last_mark (place_answer t c.in-Some.place)) e c.in-Failed.ensures.mark)
           c.first_hit-first.ensures
           (c.place_past.ensures.same (g.S.Driven.asked x first).reply
           (subst (λ (t : Setting). IsAnswer (Failed c.in-Failed.signal c.in-Failed.hit_end)
@@ -165,10 +202,15 @@ places-preserved g c =
       frames = c.try_at-answer.ensures.frames ∙ c.places.invariant.frames;
       rule = λ block. c.try_at-answer.ensures.rule block ∙ c.places.invariant.rule block;
       seen =
-          shown_on s (g.met.S.Driven.start_is x c.requires).within (match_answer s) c.places.next c.in-Some.place c.in-Some.is c.places.invariant.within c.places.invariant.not_excluded
-          c.try_at-answer.new.scratch.spans _ _ _ c.places.invariant.seen c.in-Failed.signal c.in-Failed.hit_end c.place_past.result c.next_tried-next-in-Some.result
-          (subst (λ (t : Setting). IsAnswer (Failed c.in-Failed.signal c.in-Failed.hit_end) c.try_at-answer.new.scratch.spans (place_answer t c.in-Some.place)) e c.in-Failed.ensures.answer)
-          (subst (λ (t : Setting). IsSeen (Failed c.in-Failed.signal c.in-Failed.hit_end) (g.C.Callouts.seen c.places.calls) (g.C.Callouts.seen c.try_at-answer.new.calls) (place_answer t c.in-Some.place)) e c.in-Failed.ensures.seen)
+          shown_on s (g.met.S.Driven.start_is x c.requires).within (match_answer s) c.places.next c.in-Some.place
+          c.in-Some.is c.places.invariant.within c.places.invariant.not_excluded
+          c.try_at-answer.new.scratch.spans _ _ _ c.places.invariant.seen c.in-Failed.signal c.in-Failed.hit_end
+          c.place_past.result c.next_tried-next-in-Some.result
+          (subst (λ (t : Setting). IsAnswer (Failed c.in-Failed.signal c.in-Failed.hit_end)
+          c.try_at-answer.new.scratch.spans (place_answer t c.in-Some.place)) e c.in-Failed.ensures.answer)
+          (subst (λ (t : Setting). IsSeen (Failed c.in-Failed.signal c.in-Failed.hit_end)
+          (g.C.Callouts.seen c.places.calls) (g.C.Callouts.seen c.try_at-answer.new.calls)
+          (place_answer t c.in-Some.place)) e c.in-Failed.ensures.seen)
           (c.place_past.ensures.same (g.S.Driven.asked x first).reply
           (subst (λ (t : Setting). IsAnswer (Failed c.in-Failed.signal c.in-Failed.hit_end)
           c.try_at-answer.new.scratch.spans (place_answer t c.in-Some.place)) e

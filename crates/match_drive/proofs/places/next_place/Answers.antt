@@ -9,9 +9,11 @@ char_at-requires-clause-checked g c =
     rw (c.options.ensures, c.subject-else-passes_crlf.ensures) (g.met.S.Driven.subject_is x c.requires.fits).checked
 
 pub char_at-requires-clause-place : goal.char_at-requires-clause-place
-char_at-requires-clause-place g c = rw (c.options.ensures, c.subject-else-passes_crlf.ensures) (c.requires.at.within, c.requires.at.between)
+char_at-requires-clause-place g c = rw (c.options.ensures, c.subject-else-passes_crlf.ensures)
+    (c.requires.at.within, c.requires.at.between)
 
 pub returns-then-passes_crlf-clause-place : goal.returns-then-passes_crlf-clause-place
 returns-then-passes_crlf-clause-place g c =
     let x = c.args.on.now in
-    crlf_stands (g.S.Driven.asked x passed_over) (g.met.S.Driven.start_is x c.requires.fits).within (g.met.S.Driven.subject_is x c.requires.fits) c.args.at (sym c.passes_crlf.ensures ∙ c.if-passes_crlf.true)
+    crlf_stands (g.S.Driven.asked x passed_over) (g.met.S.Driven.start_is x c.requires.fits).within
+    (g.met.S.Driven.subject_is x c.requires.fits) c.args.at (sym c.passes_crlf.ensures ∙ c.if-passes_crlf.true)

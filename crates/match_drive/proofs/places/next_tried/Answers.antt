@@ -20,14 +20,16 @@ returns-then-stands_at_begin-clause-tried g c reply =
     let x = c.args.on.now in
     let s = replied reply (g.S.Driven.asked x passed_over) in
     sym (rw c.in-Some.is at (c.places.invariant.same reply))
-    ∙ none_past s (g.met.S.Driven.start_is x c.requires.fits).within (c.if-stands_at_begin.ensures refl) c.in-Some.at c.if-at-gt0.true
+    ∙ none_past s (g.met.S.Driven.start_is x c.requires.fits).within (c.if-stands_at_begin.ensures refl) c.in-Some.at
+    c.if-at-gt0.true
 
 pub returns-then-place-last-clause-tried : goal.returns-then-place-last-clause-tried
 returns-then-place-last-clause-tried g c reply =
     let x = c.args.on.now in
     let s = replied reply (g.S.Driven.asked x passed_over) in
     none_next s (g.met.S.Driven.start_is x c.requires.fits).within c.args.from c.in-Some.at c.pass-place.result
-    (rw c.in-Some.is at (c.places.invariant.same reply)) (c.pass-place.ensures.passed reply) (omega (arith, c.requires.last, c.if-place-last.true))
+    (rw c.in-Some.is at (c.places.invariant.same reply)) (c.pass-place.ensures.passed reply)
+    (omega (arith, c.requires.last, c.if-place-last.true))
 
 pub is_excluded-requires-clause-at : goal.is_excluded-requires-clause-at
 is_excluded-requires-clause-at g c =
@@ -41,7 +43,8 @@ returns-in_default-refused_to-clause-tried g c reply =
     let x = c.args.on.now in
     let s = replied reply (g.S.Driven.asked x passed_over) in
     tried_next s (g.met.S.Driven.start_is x c.requires.fits).within c.args.from c.in-Some.at c.pass-place.result
-    (rw c.in-Some.is at (c.places.invariant.same reply)) (rw c.in-Some.is at c.places.invariant.later) (c.pass-place.ensures.passed reply)
+    (rw c.in-Some.is at (c.places.invariant.same reply)) (rw c.in-Some.is at c.places.invariant.later)
+    (c.pass-place.ensures.passed reply)
     (omega (arith, c.requires.last, c.if-place-last.false)) (sym c.is_excluded.ensures ∙ c.if-is_excluded.false)
 
 pub pass-place-requires-clause-place : goal.pass-place-requires-clause-place
@@ -58,7 +61,8 @@ places-smaller-then-is_excluded g c =
     let x = c.args.on.now in
     let s = g.S.Driven.asked x passed_over in
     let e : c.up_to-next.result ≡ up_to (last_place s) (next_place s c.pass-place.result) =
-    step_is s (g.met.S.Driven.start_is x c.requires.fits).within c.pass-place.result c.args.last c.next_place.result c.up_to-next.result c.requires.last c.next_place.ensures.value c.up_to-next.ensures.value in
+    step_is s (g.met.S.Driven.start_is x c.requires.fits).within c.pass-place.result c.args.last c.next_place.result
+    c.up_to-next.result c.requires.last c.next_place.ensures.value c.up_to-next.ensures.value in
     let high : last_place s ≤ length s.subject = last_within s (g.met.S.Driven.start_is x c.requires.fits).within in
     let later : c.in-Some.at ≤ c.pass-place.result = (c.pass-place.ensures.passed s.reply).later in
     left_less (length s.subject) c.in-Some.at c.places.next c.up_to-next.result c.in-Some.is
@@ -71,18 +75,23 @@ places-preserved-then-is_excluded g c =
     let x = c.args.on.now in
     let s = g.S.Driven.asked x passed_over in
     let e : c.up_to-next.result ≡ up_to (last_place s) (next_place s c.pass-place.result) =
-    step_is s (g.met.S.Driven.start_is x c.requires.fits).within c.pass-place.result c.args.last c.next_place.result c.up_to-next.result c.requires.last c.next_place.ensures.value c.up_to-next.ensures.value in
+    step_is s (g.met.S.Driven.start_is x c.requires.fits).within c.pass-place.result c.args.last c.next_place.result
+    c.up_to-next.result c.requires.last c.next_place.ensures.value c.up_to-next.ensures.value in
     record {
       same = λ reply.
           ap (found_from (replied reply s)) e
-          ∙ excluded_next (replied reply s) (g.met.S.Driven.start_is x c.requires.fits).within c.args.from c.in-Some.at c.pass-place.result
-          (rw c.in-Some.is at (c.places.invariant.same reply)) (c.pass-place.ensures.passed reply) (omega (arith, c.requires.last, c.if-place-last.false)) (sym c.is_excluded.ensures ∙ c.if-is_excluded.true);
+          ∙ excluded_next (replied reply s) (g.met.S.Driven.start_is x c.requires.fits).within c.args.from
+          c.in-Some.at c.pass-place.result
+          (rw c.in-Some.is at (c.places.invariant.same reply)) (c.pass-place.ensures.passed reply)
+          (omega (arith, c.requires.last, c.if-place-last.false))
+          (sym c.is_excluded.ensures ∙ c.if-is_excluded.true);
       within = c.up_to-next.ensures.within;
       place = subst (λ (o : Option ℕ). IfSome o (IsTextPlace s.options s.subject)) (sym c.up_to-next.ensures.value)
           (up_to_place (IsTextPlace s.options s.subject) c.args.last c.next_place.result c.next_place.ensures.place);
       later = none_earlier c.args.from c.in-Some.at c.up_to-next.result (rw c.in-Some.is at c.places.invariant.later)
           (subst (λ (o : Option ℕ). IfSome o (λ q. c.in-Some.at < q)) (sym e)
-          (step_later s (g.met.S.Driven.start_is x c.requires.fits).within c.in-Some.at c.pass-place.result (c.pass-place.ensures.passed s.reply).later));
+          (step_later s (g.met.S.Driven.start_is x c.requires.fits).within c.in-Some.at c.pass-place.result
+          (c.pass-place.ensures.passed s.reply).later));
     }
 
 pub refused_to-requires-clause-place : goal.refused_to-requires-clause-place
@@ -120,7 +129,8 @@ places-preserved g c =
           c.past_refused-next.ensures.same reply
           ∙ (tried_next (replied reply s) begun c.args.from c.in-Some.at c.pass-place.result
           (rw c.in-Some.is at (c.places.invariant.same reply)) later (c.pass-place.ensures.passed reply)
-          (omega (arith, c.requires.last, c.if-place-last.false)) (sym c.is_excluded.ensures ∙ c.if-is_excluded.false)).same;
+          (omega (arith, c.requires.last, c.if-place-last.false)) (sym c.is_excluded.ensures
+          ∙ c.if-is_excluded.false)).same;
       within = c.past_refused-next.ensures.within;
       place = c.past_refused-next.ensures.place;
       later = none_earlier c.args.from c.in-Some.at c.past_refused-next.result later (onward g c);

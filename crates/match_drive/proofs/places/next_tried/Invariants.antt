@@ -10,9 +10,11 @@ use Rattle.match_drive.proofs.places.next_tried.Given as goal
 -- what is found from the place on is what was found from the first
 abbrev pub invariant-places : goal.invariant-places
 invariant-places g l = record {
-  same : (reply : Block → ℤ) → found_from (replied reply (g.S.Driven.asked l.on passed_over)) l.next ≡ found_from (replied reply (g.S.Driven.asked l.on passed_over)) l.fn.from;
+  same : (reply : Block → ℤ) → found_from (replied reply (g.S.Driven.asked l.on passed_over)) l.next ≡ found_from
+      (replied reply (g.S.Driven.asked l.on passed_over)) l.fn.from;
   within : IfSome l.next (λ p. p ≤ l.last);
-  place : IfSome l.next (IsTextPlace (g.S.Driven.asked l.on passed_over).options (g.S.Driven.asked l.on passed_over).subject);
+  place : IfSome l.next (IsTextPlace (g.S.Driven.asked l.on passed_over).options
+      (g.S.Driven.asked l.on passed_over).subject);
   later : IfSome l.next (IsNoEarlier l.fn.from);
 }
 

@@ -50,4 +50,5 @@ returns-clause-place g c =
     let x = c.args.on.now in
     let s = g.S.Driven.asked x passed_over in
     let high : last_place s ≤ length s.subject = last_within s (g.met.S.Driven.start_is x c.requires.fits).within in
-    IfSome_then c.up_to.result c.up_to.ensures.within (λ q low. byte_place s.options s.subject c.requires.fail.bytes q (omega (arith, low, high, c.requires.last)))
+    IfSome_then c.up_to.result c.up_to.ensures.within
+    (λ q low. byte_place s.options s.subject c.requires.fail.bytes q (omega (arith, low, high, c.requires.last)))

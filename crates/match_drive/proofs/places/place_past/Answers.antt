@@ -62,4 +62,5 @@ returns-clause-place g c =
       | inr bytes ↦ bytes
     ] in
     let high : last_place s ≤ length s.subject = last_within s (g.met.S.Driven.start_is x c.requires.fits).within in
-    IfSome_then c.up_to.result c.up_to.ensures.within (λ q low. byte_place s.options s.subject not_utf q (omega (arith, low, high, c.requires.last)))
+    IfSome_then c.up_to.result c.up_to.ensures.within
+    (λ q low. byte_place s.options s.subject not_utf q (omega (arith, low, high, c.requires.last)))

@@ -7,4 +7,5 @@ pub returns-then-at-view : goal.returns-then-at-view
 returns-then-at-view c = told_break_end (bare_text c.args.view.now) c.args.at (omega (arith, c.if-at-view.true))
 
 pub returns-in-0 : goal.returns-in-0
-returns-in-0 c = told_no_break (bare_text c.args.view.now) c.args.at (omega (arith, c.if-at-view.false)) (omega (arith, c.break_len.ensures, c.in-0.is))
+returns-in-0 c = told_no_break (bare_text c.args.view.now) c.args.at (omega (arith, c.if-at-view.false))
+    (omega (arith, c.break_len.ensures, c.in-0.is))

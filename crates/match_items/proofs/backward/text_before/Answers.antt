@@ -5,4 +5,5 @@ use Rattle.match_items.proofs.backward.text_before.Goals as goal
 
 pub returns-clause-value : goal.returns-clause-value
 returns-clause-value c =
-    ap (λ (x : ℕ × ℕ). x.1) c.char_before.ensures.value ∙ sym (place_before-some (bare_text c.args.view.now) c.args.at (omega (arith, c.if-at-eq0.false)))
+    ap (λ (x : ℕ × ℕ). x.1) c.char_before.ensures.value
+    ∙ sym (place_before-some (bare_text c.args.view.now) c.args.at (omega (arith, c.if-at-eq0.false)))

@@ -5,4 +5,5 @@ use Rattle.match_items.proofs.references.same_front.Goals as goal
 
 pub returns : goal.returns
 returns c =
-    sym (c.loop-i.invariant ∙ same_front-done (bare_text c.args.view.now) c.args.caseless c.args.text.now c.args.rest.now c.loop-i.i (omega (arith, c.loop-i-test.false, c.min-shorter.ensures)))
+    sym (c.loop-i.invariant ∙ same_front-done (bare_text c.args.view.now) c.args.caseless c.args.text.now
+    c.args.rest.now c.loop-i.i (omega (arith, c.loop-i-test.false, c.min-shorter.ensures)))

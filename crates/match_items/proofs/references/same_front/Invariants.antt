@@ -5,4 +5,5 @@ use Rattle.match_items.proofs.references.same_front.Given as goal
 
 abbrev pub invariant-loop-i : goal.invariant-loop-i
 invariant-loop-i l =
-    same_front (bare_text l.view) l.caseless l.text l.rest ≡ same_front (bare_text l.view) l.caseless (drop l.i l.text) (drop l.i l.rest)
+    same_front (bare_text l.view) l.caseless l.text l.rest ≡ same_front (bare_text l.view) l.caseless
+    (drop l.i l.text) (drop l.i l.rest)

@@ -9,7 +9,8 @@ invariant-loop-compared l = record {
   text : IsCharBoundary l.text l.compared;
   rest : IsCharBoundary l.rest l.taken;
   after : after_text (bare_text l.view) l.caseless (chars l.text) (chars l.rest) l.at
-      ≡ after_text (bare_text l.view) l.caseless (chars (drop l.compared l.text)) (chars (drop l.taken l.rest)) (l.at + l.taken);
+      ≡ after_text (bare_text l.view) l.caseless (chars (drop l.compared l.text)) (chars (drop l.taken l.rest))
+      (l.at + l.taken);
   reaches : text_reaches (bare_text l.view) l.caseless (chars l.text) (chars l.rest)
       ≡ text_reaches (bare_text l.view) l.caseless (chars (drop l.compared l.text)) (chars (drop l.taken l.rest));
 }

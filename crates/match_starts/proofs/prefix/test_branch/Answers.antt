@@ -16,4 +16,5 @@ pub returns-in_default : goal.returns-in_default
 returns-in_default c =
     let g = text_scene c.args.view.now c.args.ready.now.classes.now in
     c.test_items-in_default.ensures
-    ∙ sym (alone_tested g c.args.ready.now.tree.now c.args.branch c.args.place c.node.result.now c.node.ensures.is c.in_default.not-Seq)
+    ∙ sym (alone_tested g c.args.ready.now.tree.now c.args.branch c.args.place c.node.result.now c.node.ensures.is
+    c.in_default.not-Seq)

@@ -9,7 +9,8 @@ branches-preserved c =
     let g = text_scene c.args.view.now c.args.ready.now.classes.now in
     record {
       same =
-          sym (at_branch g c.args.ready.now.tree.now c.args.branches.now c.branches.i c.args.place c.branches-test.true Refused (sym c.in-Refused.is ∙ c.test_branch.ensures))
+          sym (at_branch g c.args.ready.now.tree.now c.args.branches.now c.branches.i c.args.place
+          c.branches-test.true Refused (sym c.in-Refused.is ∙ c.test_branch.ensures))
           ∙ c.branches.invariant.same;
     }
 
@@ -17,10 +18,12 @@ pub returns-in_default : goal.returns-in_default
 returns-in_default c =
     let g = text_scene c.args.view.now c.args.ready.now.classes.now in
     sym (stays c.test_branch.result _ c.in_default.not-Refused)
-    ∙ sym (at_branch g c.args.ready.now.tree.now c.args.branches.now c.branches.i c.args.place c.branches-test.true c.test_branch.result c.test_branch.ensures)
+    ∙ sym (at_branch g c.args.ready.now.tree.now c.args.branches.now c.branches.i c.args.place c.branches-test.true
+    c.test_branch.result c.test_branch.ensures)
     ∙ c.branches.invariant.same
 
 pub returns : goal.returns
 returns c =
     let g = text_scene c.args.view.now c.args.ready.now.classes.now in
-    sym (past_branches g c.args.ready.now.tree.now c.args.branches.now c.branches.i c.args.place c.branches-test.false) ∙ c.branches.invariant.same
+    sym (past_branches g c.args.ready.now.tree.now c.args.branches.now c.branches.i c.args.place
+    c.branches-test.false) ∙ c.branches.invariant.same

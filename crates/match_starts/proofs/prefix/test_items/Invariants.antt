@@ -7,7 +7,8 @@ use Rattle.match_starts.proofs.prefix.test_items.Given as goal
 -- the parts that are left tell what all of them do
 abbrev pub invariant-parts : goal.invariant-parts
 invariant-parts l = record {
-  same : items_tested (text_scene l.view l.ready.classes.now) (row_of l.ready.tree.now (drop l.i l.parts)) l.at ≡ items_tested (text_scene l.view l.ready.classes.now) (row_of l.ready.tree.now l.parts) l.place;
+  same : items_tested (text_scene l.view l.ready.classes.now) (row_of l.ready.tree.now (drop l.i l.parts))
+      l.at ≡ items_tested (text_scene l.view l.ready.classes.now) (row_of l.ready.tree.now l.parts) l.place;
   place : IsTextPlace l.view.options.now l.view.subject.now l.at;
 }
 

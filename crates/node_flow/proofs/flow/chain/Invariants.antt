@@ -9,7 +9,8 @@ invariant-loop-i l = record {
   size : length l.next ≡ length l.initial.next;
   follows : (rest : List ℕ) → first_of rest ≡ l.fn.after → l.follower ≡ first_of (drop l.i l.kids ++ rest);
   told : (rest : List ℕ) → first_of rest ≡ l.fn.after → (k : ℕ) →
-      get_or l.next k None ≡ (if is_in k (drop l.i l.kids) then first_of (later_than k (drop l.i l.kids) ++ rest) else get_or l.initial.next k None);
+      get_or l.next k None ≡ (if is_in k (drop l.i l.kids) then first_of (later_than k (drop l.i l.kids) ++ rest) else
+      get_or l.initial.next k None);
 }
 
 abbrev pub decreases-loop-i : goal.decreases-loop-i

@@ -15,7 +15,8 @@ unfolding bound
 returns-in-Group c kept =
     rw c.in-Group.is
     (refines_on c.grouped.result (change (grouped c.in-Group.number) c.one_of.result) _ c.grouped.ensures
-    (change_refines (grouped c.in-Group.number) c.one_of.result _ ((rw c.as_slice-in-Group.ensures at c.one_of.ensures) kept)))
+    (change_refines (grouped c.in-Group.number) c.one_of.result _
+    ((rw c.as_slice-in-Group.ensures at c.one_of.ensures) kept)))
 
 pub returns-in-Repeat : goal.returns-in-Repeat
 unfolding bound
@@ -25,7 +26,8 @@ returns-in-Repeat c kept =
     let high = c.in-Repeat.max in
     let bounds = c.args.bounds.now in
     let own = bound_at bounds body in
-    let below : All (λ k. k < length bounds) (body ∷ []) = subst (λ n. All (λ k. k < length bounds) (kids_of n)) c.in-Repeat.is c.requires.below in
+    let below : All (λ k. k < length bounds) (body ∷ []) =
+    subst (λ n. All (λ k. k < length bounds) (kids_of n)) c.in-Repeat.is c.requires.below in
     rw c.in-Repeat.is
     (refines_on c.repeated.result (repeated low high own) _ c.repeated.ensures
     (repeated_refines low high own _ (kept body (below 0 0 (omega arith)))))
@@ -35,13 +37,15 @@ unfolding bound
 returns-in-Atomic c kept =
     rw c.in-Atomic.is
     (refines_on c.closed.result (change closed c.one_of-in-Atomic.result) _ c.closed.ensures
-    (change_refines closed c.one_of-in-Atomic.result _ ((rw c.as_slice-in-Atomic.ensures at c.one_of-in-Atomic.ensures) kept)))
+    (change_refines closed c.one_of-in-Atomic.result _
+    ((rw c.as_slice-in-Atomic.ensures at c.one_of-in-Atomic.ensures) kept)))
 
 pub returns-in-Look : goal.returns-in-Look
 returns-in-Look c kept =
     let inside = c.one_of-in-Look.result in
     rw c.in-Look.is
-    (look_told (class_has c.args.tree.now) c.in-Look.ahead c.in-Look.positive c.in-Look.atomic _ c.closed-in-Look.result c.bound_if.result
+    (look_told (class_has c.args.tree.now) c.in-Look.ahead c.in-Look.positive c.in-Look.atomic _
+    c.closed-in-Look.result c.bound_if.result
     (refines_on c.closed-in-Look.result (change closed inside) _ c.closed-in-Look.ensures
     (change_refines closed inside _ ((rw c.as_slice-in-Look.ensures at c.one_of-in-Look.ensures) kept)))
     c.bound_if.ensures)

@@ -1,4 +1,5 @@
-use Rattle.std.proofs.Common.{◌≡◌, ◌∙◌, ◌+◌, ◌-◌, ◌<◌, ℕ, List, ◌∷◌, drop, length, length-drop, get_or, sym, subst, ap, arith}
+use Rattle.std.proofs.Common.{◌≡◌, ◌∙◌, ◌+◌, ◌-◌, ◌<◌, ℕ, List, ◌∷◌, drop, length, length-drop, get_or, sym, subst}
+use Rattle.std.proofs.Common.{ap, arith}
 use Rattle.std.proofs.lemmas.List.{at_drop_more, take_all}
 use Rattle.pat_bounds.specs.BoundTables.{RefinesChoices, is_alone_of}
 use Rattle.pat_bounds.proofs.BoundLemmas.{choices_none, choices_next}
@@ -24,10 +25,13 @@ loop-i-preserved c =
     let rest = drop i branches in
     let here : drop (i - 1) branches ≡ k ∷ rest =
     at_drop_more (λ (l : List ℕ). l) branches (i - 1) 0 low ∙ ap (λ n. k ∷ drop n branches) next in
-    let all = take_all (length branches - (i - 1 + 1)) (drop (i - 1 + 1) branches) (omega (arith, length-drop (i - 1 + 1) branches)) in
-    let alone = c.is_alone-alone.ensures ∙ ap (is_alone_of tree k) all ∙ ap (λ n. is_alone_of tree k (drop n branches)) next in
+    let all = take_all (length branches - (i - 1 + 1)) (drop (i - 1 + 1) branches)
+    (omega (arith, length-drop (i - 1 + 1) branches)) in
+    let alone = c.is_alone-alone.ensures ∙ ap (is_alone_of tree k) all
+    ∙ ap (λ n. is_alone_of tree k (drop n branches)) next in
     record {
       within = omega (arith, within);
       is = subst (RefinesChoices tree bounds c.or_so-whole.result) (sym here)
-          (choices_next tree bounds c.loop-i.whole c.or_so-whole.result c.is_alone-alone.result k rest (c.requires.below (i - 1) 0 low) alone c.loop-i.invariant.is c.or_so-whole.ensures);
+          (choices_next tree bounds c.loop-i.whole c.or_so-whole.result c.is_alone-alone.result k rest
+          (c.requires.below (i - 1) 0 low) alone c.loop-i.invariant.is c.or_so-whole.ensures);
     }

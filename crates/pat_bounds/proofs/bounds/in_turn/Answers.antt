@@ -1,4 +1,5 @@
-use Rattle.std.proofs.Common.{◌≡◌, ◌∙◌, ◌+◌, ◌-◌, ◌<◌, ℕ, List, ◌∷◌, drop, take, length, length-drop, get_or, sym, subst, arith}
+use Rattle.std.proofs.Common.{◌≡◌, ◌∙◌, ◌+◌, ◌-◌, ◌<◌, ℕ, List, ◌∷◌, drop, take, length, length-drop, get_or, sym}
+use Rattle.std.proofs.Common.{subst, arith}
 use Rattle.std.proofs.lemmas.List.{at_drop_more, take_all}
 use Rattle.pat_bounds.specs.BoundTables.{RefinesTurn, IsBefore}
 use Rattle.pat_bounds.proofs.BoundLemmas.{turn_none, turn_next}
@@ -23,11 +24,14 @@ loop-i-preserved c =
     let k = get_or parts j 0 in
     let here : drop j parts ≡ k ∷ drop (j + 1) parts = at_drop_more (λ (l : List ℕ). l) parts j 0 low in
     let long = length-drop j parts in
-    let all : take (length parts - j) (drop j parts) ≡ k ∷ drop (j + 1) parts = take_all (length parts - j) (drop j parts) (omega (arith, long)) ∙ here in
+    let all : take (length parts - j) (drop j parts) ≡ k ∷ drop (j + 1) parts =
+    take_all (length parts - j) (drop j parts) (omega (arith, long)) ∙ here in
     record {
       within = omega (arith, within);
       is = subst (RefinesTurn tree bounds c.followed-whole.result) (sym here)
-          (turn_next tree bounds c.bound_before.result c.loop-i.whole c.followed-whole.result k (drop (j + 1) parts) (c.requires.below j 0 low)
+          (turn_next tree bounds c.bound_before.result c.loop-i.whole c.followed-whole.result k (drop (j + 1) parts)
+          (c.requires.below j 0 low)
           (subst (IsBefore tree bounds c.bound_before.result) all c.bound_before.ensures)
-          (subst (λ n. RefinesTurn tree bounds c.loop-i.whole (drop n parts)) next c.loop-i.invariant.is) c.followed-whole.ensures);
+          (subst (λ n. RefinesTurn tree bounds c.loop-i.whole (drop n parts)) next c.loop-i.invariant.is)
+          c.followed-whole.ensures);
     }

@@ -8,8 +8,10 @@ loop-i-init c = refl
 pub loop-i-preserved : goal.loop-i-preserved
 loop-i-preserved c =
     c.loop-i.invariant
-    ∙ apart_next c.args.tree.now c.in-Some.item c.args.others.now c.loop-i.i c.loop-i-test.true (sym c.begins_apart.ensures ∙ c.if-not-begins_apart.false)
+    ∙ apart_next c.args.tree.now c.in-Some.item c.args.others.now c.loop-i.i c.loop-i-test.true
+    (sym c.begins_apart.ensures ∙ c.if-not-begins_apart.false)
 
 pub returns : goal.returns
 returns c =
-    alone_told c.args.tree.now c.in-Some.item c.args.first c.args.others.now c.loop-i.i (sym c.first_item.ensures.is ∙ c.in-Some.is) c.loop-i-test.false c.loop-i.invariant
+    alone_told c.args.tree.now c.in-Some.item c.args.first c.args.others.now c.loop-i.i
+    (sym c.first_item.ensures.is ∙ c.in-Some.is) c.loop-i-test.false c.loop-i.invariant

@@ -8,4 +8,5 @@ returns-then-branches-eq1 c =
     one_only c.args.tree.now c.args.bounds.now c.args.branches.now one (c.requires.below 0 0 (omega (arith, one)))
 
 pub returns : goal.returns
-returns c = one_of_more c.args.tree.now c.args.bounds.now c.choices_of.result c.args.branches.now c.if-branches-eq1.false c.choices_of.ensures
+returns c = one_of_more c.args.tree.now c.args.bounds.now c.choices_of.result c.args.branches.now
+    c.if-branches-eq1.false c.choices_of.ensures

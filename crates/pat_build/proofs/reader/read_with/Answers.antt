@@ -11,13 +11,15 @@ returns-then-text-gt65536-clause-bad c = read_long c.args.calling c.args.options
 
 pub returns-then-options-clause-ok : goal.returns-then-options-clause-ok
 returns-then-options-clause-ok c =
-    read_literal c.args.calling c.args.options c.args.text.now c.if-text-gt65536.false c.if-options.true c.in_ok-in_utf8.ensures.ok
+    read_literal c.args.calling c.args.options c.args.text.now c.if-text-gt65536.false c.if-options.true
+    c.in_ok-in_utf8.ensures.ok
     ∙ ap (λ p. let x : Result Parsed Fault = Ok p in x) (sym c.in_ok-tree.ensures.parsed)
 
 pub returns-in_err-start-clause-bad : goal.returns-in_err-start-clause-bad
 returns-in_err-start-clause-bad c =
     let p = err_from_is_err_and c.from_residual-in_err-start.result c.from_residual-in_err-start.ensures.1 in
-    rw (p.1, p.2) (start_refuses c.args.calling c.args.options c.args.text.now c.if-text-gt65536.false c.if-options.false c.in_err-start.field-0.0 c.in_err-start.ensures.bad)
+    rw (p.1, p.2) (start_refuses c.args.calling c.args.options c.args.text.now c.if-text-gt65536.false
+    c.if-options.false c.in_err-start.field-0.0 c.in_err-start.ensures.bad)
 
 pub returns-in_err-tree-2-clause-bad : goal.returns-in_err-tree-2-clause-bad
 returns-in_err-tree-2-clause-bad c =
@@ -35,12 +37,15 @@ returns-clause-ok c =
 pub returns-in_err-in_utf8-clause-bad : goal.returns-in_err-in_utf8-clause-bad
 returns-in_err-in_utf8-clause-bad c =
     let p = err_from_is_err_and c.from_residual.result c.from_residual.ensures.1 in
-    let is = read_literal_bad c.args.calling c.args.options c.args.text.now c.if-text-gt65536.false c.if-options.true c.in_err-in_utf8.ensures.why in
-    rw (p.1, p.2) (subst (λ e. Refuses (read_with c.args.calling c.args.options c.args.text.now) e) (sym c.in_err-in_utf8.ensures.bad) is)
+    let is = read_literal_bad c.args.calling c.args.options c.args.text.now c.if-text-gt65536.false c.if-options.true
+    c.in_err-in_utf8.ensures.why in
+    rw (p.1, p.2) (subst (λ e. Refuses (read_with c.args.calling c.args.options c.args.text.now) e)
+    (sym c.in_err-in_utf8.ensures.bad) is)
 
 pub returns-in_err-in_utf8-2-clause-bad : goal.returns-in_err-in_utf8-2-clause-bad
 returns-in_err-in_utf8-2-clause-bad c =
     let p = err_from_is_err_and c.from_residual-in_err-in_utf8-2.result c.from_residual-in_err-in_utf8-2.ensures.1 in
     let is = utf_refuses c.args.calling c.args.options c.args.text.now c.if-text-gt65536.false c.if-options.false
     (state_from c.in_ok-start.start c.in_ok-start.begun) c.in_ok-start.ensures.ok c.in_err-in_utf8-2.ensures.why in
-    rw (p.1, p.2) (subst (λ e. Refuses (read_with c.args.calling c.args.options c.args.text.now) e) (sym c.in_err-in_utf8-2.ensures.bad) is)
+    rw (p.1, p.2) (subst (λ e. Refuses (read_with c.args.calling c.args.options c.args.text.now) e)
+    (sym c.in_err-in_utf8-2.ensures.bad) is)

@@ -14,14 +14,17 @@ use Rattle.pat_build.proofs.reader.tree_from.Goals as goal
 pub returns-in_err-run-clause-bad : goal.returns-in_err-run-clause-bad
 returns-in_err-run-clause-bad c =
     let p = err_from_is_err_and c.from_residual.result c.from_residual.ensures.1 in
-    rw (p.1, p.2) (first_refuses c.args.calling c.args.text.now (state_from c.args.start c.args.options) c.in_err-run.field-0.0
+    rw (p.1, p.2) (first_refuses c.args.calling c.args.text.now (state_from c.args.start c.args.options)
+    c.in_err-run.field-0.0
     (subst (λ r. Refuses r c.in_err-run.field-0.0) c.new-machine.ensures.whole c.in_err-run.ensures.bad))
 
 pub returns-in_err-root-clause-bad : goal.returns-in_err-root-clause-bad
 returns-in_err-root-clause-bad c =
     let p = err_from_is_err_and c.from_residual-in_err-root.result c.from_residual-in_err-root.ensures.1 in
-    rw (p.1, p.2) (first_refuses c.args.calling c.args.text.now (state_from c.args.start c.args.options) c.in_err-root.field-0.0
-    (subst (λ r. Refuses r c.in_err-root.field-0.0) (c.in_ok-run.ensures.same.whole ∙ c.new-machine.ensures.whole) c.in_err-root.ensures.bad))
+    rw (p.1, p.2) (first_refuses c.args.calling c.args.text.now (state_from c.args.start c.args.options)
+    c.in_err-root.field-0.0
+    (subst (λ r. Refuses r c.in_err-root.field-0.0) (c.in_ok-run.ensures.same.whole ∙ c.new-machine.ensures.whole)
+    c.in_err-root.ensures.bad))
 
 pub finish-requires : goal.finish-requires
 finish-requires c =
@@ -47,9 +50,11 @@ returns-then-is_nameless-clause-ok c =
     let is = sym made.whole ∙ sym same.whole ∙ ends.is in
     let from : read_from calling text st ≡ tree_with (record { names = []; calling = calling }) text st =
     from_is calling text st (tree_at (trees m.draft.nodes) c.in_ok-root.root, state_of m) is
-    ∙ ap (λ (names : List NameEntry). tree_with (record { names = names; calling = calling }) text st) (c.is_nameless.ensures c.if-is_nameless.true) in
+    ∙ ap (λ (names : List NameEntry). tree_with (record { names = names; calling = calling }) text st)
+    (c.is_nameless.ensures c.if-is_nameless.true) in
     subst (λ (r : Result Parsed Fault). IfOk c.finish.result (λ tree. r ≡ Ok (parsed_of tree))) (sym from)
-    (c.finish.ensures.ok (record { names = []; calling = calling }) text st (sym (ends.options ∙ same.options ∙ made.options)) is)
+    (c.finish.ensures.ok (record { names = []; calling = calling }) text st
+    (sym (ends.options ∙ same.options ∙ made.options)) is)
 
 pub returns-then-is_nameless-clause-bad : goal.returns-then-is_nameless-clause-bad
 returns-then-is_nameless-clause-bad c =
@@ -63,7 +68,8 @@ returns-then-is_nameless-clause-bad c =
     let is = sym made.whole ∙ sym same.whole ∙ ends.is in
     let from : read_from calling text st ≡ tree_with (record { names = []; calling = calling }) text st =
     from_is calling text st (tree_at (trees m.draft.nodes) c.in_ok-root.root, state_of m) is
-    ∙ ap (λ (names : List NameEntry). tree_with (record { names = names; calling = calling }) text st) (c.is_nameless.ensures c.if-is_nameless.true) in
+    ∙ ap (λ (names : List NameEntry). tree_with (record { names = names; calling = calling }) text st)
+    (c.is_nameless.ensures c.if-is_nameless.true) in
     subst (λ (r : Result Parsed Fault). IfErr c.finish.result (Refuses r)) (sym from)
     (c.finish.ensures.bad (record { names = []; calling = calling }) text st is)
 
@@ -77,10 +83,12 @@ returns-clause-ok c =
     let calling = c.args.calling in
     let st = state_from c.args.start c.args.options in
     let from =
-    from_is calling text st (tree_at (trees m.draft.nodes) c.in_ok-root.root, state_of m) (sym made.whole ∙ sym same.whole ∙ ends.is)
+    from_is calling text st (tree_at (trees m.draft.nodes) c.in_ok-root.root, state_of m)
+    (sym made.whole ∙ sym same.whole ∙ ends.is)
     ∙ ap (λ (names : List NameEntry). tree_with (record { names = names; calling = calling }) text st)
     (ap (λ d. d.names) (sym c.replace-first.ensures.value) ∙ sym c.names.ensures) in
-    subst (λ (r : Result Parsed Fault). IfOk c.tree_of.result (λ tree. r ≡ Ok (parsed_of tree))) (sym from) c.tree_of.ensures.ok
+    subst (λ (r : Result Parsed Fault). IfOk c.tree_of.result (λ tree. r ≡ Ok (parsed_of tree))) (sym from)
+    c.tree_of.ensures.ok
 
 pub returns-clause-bad : goal.returns-clause-bad
 returns-clause-bad c =
@@ -92,7 +100,8 @@ returns-clause-bad c =
     let calling = c.args.calling in
     let st = state_from c.args.start c.args.options in
     let from =
-    from_is calling text st (tree_at (trees m.draft.nodes) c.in_ok-root.root, state_of m) (sym made.whole ∙ sym same.whole ∙ ends.is)
+    from_is calling text st (tree_at (trees m.draft.nodes) c.in_ok-root.root, state_of m)
+    (sym made.whole ∙ sym same.whole ∙ ends.is)
     ∙ ap (λ (names : List NameEntry). tree_with (record { names = names; calling = calling }) text st)
     (ap (λ d. d.names) (sym c.replace-first.ensures.value) ∙ sym c.names.ensures) in
     subst (λ (r : Result Parsed Fault). IfErr c.tree_of.result (Refuses r)) (sym from) c.tree_of.ensures.bad

@@ -8,14 +8,17 @@ use Rattle.pat_build.proofs.reader.tree_of.Goals as goal
 pub returns-in_err-run-clause-bad : goal.returns-in_err-run-clause-bad
 returns-in_err-run-clause-bad c =
     let p = err_from_is_err_and c.from_residual.result c.from_residual.ensures.1 in
-    rw (p.1, p.2) (tree_refuses (record { names = c.args.known.now; calling = c.args.calling }) c.args.text.now (state_from c.args.start c.args.options) c.in_err-run.field-0.0
+    rw (p.1, p.2) (tree_refuses (record { names = c.args.known.now; calling = c.args.calling }) c.args.text.now
+    (state_from c.args.start c.args.options) c.in_err-run.field-0.0
     (subst (λ r. Refuses r c.in_err-run.field-0.0) c.new-machine.ensures.whole c.in_err-run.ensures.bad))
 
 pub returns-in_err-root-clause-bad : goal.returns-in_err-root-clause-bad
 returns-in_err-root-clause-bad c =
     let p = err_from_is_err_and c.from_residual-in_err-root.result c.from_residual-in_err-root.ensures.1 in
-    rw (p.1, p.2) (tree_refuses (record { names = c.args.known.now; calling = c.args.calling }) c.args.text.now (state_from c.args.start c.args.options) c.in_err-root.field-0.0
-    (subst (λ r. Refuses r c.in_err-root.field-0.0) (c.in_ok-run.ensures.same.whole ∙ c.new-machine.ensures.whole) c.in_err-root.ensures.bad))
+    rw (p.1, p.2) (tree_refuses (record { names = c.args.known.now; calling = c.args.calling }) c.args.text.now
+    (state_from c.args.start c.args.options) c.in_err-root.field-0.0
+    (subst (λ r. Refuses r c.in_err-root.field-0.0) (c.in_ok-run.ensures.same.whole ∙ c.new-machine.ensures.whole)
+    c.in_err-root.ensures.bad))
 
 pub finish-requires : goal.finish-requires
 finish-requires c =
@@ -34,7 +37,8 @@ returns-clause-ok c =
     let made = c.new-machine.ensures in
     let same = c.in_ok-run.ensures.same in
     let ends = c.in_ok-root.ensures.ok in
-    c.finish.ensures.ok (record { names = c.args.known.now; calling = c.args.calling }) c.args.text.now (state_from c.args.start c.args.options)
+    c.finish.ensures.ok (record { names = c.args.known.now; calling = c.args.calling }) c.args.text.now
+    (state_from c.args.start c.args.options)
     (sym (ends.options ∙ same.options ∙ made.options)) (sym made.whole ∙ sym same.whole ∙ ends.is)
 
 pub returns-clause-bad : goal.returns-clause-bad
@@ -42,5 +46,6 @@ returns-clause-bad c =
     let made = c.new-machine.ensures in
     let same = c.in_ok-run.ensures.same in
     let ends = c.in_ok-root.ensures.ok in
-    c.finish.ensures.bad (record { names = c.args.known.now; calling = c.args.calling }) c.args.text.now (state_from c.args.start c.args.options)
+    c.finish.ensures.bad (record { names = c.args.known.now; calling = c.args.calling }) c.args.text.now
+    (state_from c.args.start c.args.options)
     (sym made.whole ∙ sym same.whole ∙ ends.is)

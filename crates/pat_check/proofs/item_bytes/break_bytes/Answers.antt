@@ -11,5 +11,6 @@ returns-then-utf c b l =
     ∙ ap (λ x. ((x || b == 12) || b == 194) || b == 226) (c.insert-in-Unicode.ensures b)
     ∙ ap (λ x. (((x || b == 11) || b == 12) || b == 194) || b == 226) (c.insert-2.ensures b)
     ∙ ap (λ x. ((((x || b == 10) || b == 11) || b == 12) || b == 194) || b == 226) (c.insert.ensures b)
-    ∙ ap (λ x. (((((x || b == 13) || b == 10) || b == 11) || b == 12) || b == 194) || b == 226) (c.empty-bytes.ensures b)
+    ∙ ap (λ x. (((((x || b == 13) || b == 10) || b == 11) || b == 12) || b == 194) || b == 226)
+    (c.empty-bytes.ensures b)
     ∙ break_bytes b)

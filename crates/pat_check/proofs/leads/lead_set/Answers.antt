@@ -12,4 +12,6 @@ returns c fold folds =
     let within : t.root < length starts = omega (arith, c.in_ok-starts.ensures.count) in
     let read : start ≡ get_or starts t.root start = rw c.root.ensures at c.index.ensures in
     let is : start ≡ get_or starts t.root None = read ∙ get_or_default starts t.root start None within in
-    c.known_set.ensures (lead_in t fold (tree_of t)) (subst (λ s. IsSomeLead s (lead_in t fold (tree_of t))) (sym is) (c.in_ok-starts.ensures.kept fold folds t.root within))
+    c.known_set.ensures (lead_in t fold (tree_of t))
+    (subst (λ s. IsSomeLead s (lead_in t fold (tree_of t))) (sym is)
+    (c.in_ok-starts.ensures.kept fold folds t.root within))

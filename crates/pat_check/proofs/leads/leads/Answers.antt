@@ -13,6 +13,10 @@ loop-id-preserved c =
     let items : c.push.new.self.items ≡ old ++ start ∷ [] = c.in_ok-push.ensures.items in
     let count : length old ≡ c.loop-id.id = c.loop-id.invariant.0 in (
       ap length items ∙ length-append old (start ∷ []) ∙ ap (λ n. n + 1) count,
-      λ fold folds. subst (KeepLeads tree fold ts) (sym items) (keep_more (λ k s. IsSomeLead s (lead_in tree fold (tree_at ts k))) old start None (c.loop-id.invariant.1 fold folds)
-          (rw (count, ← c.node.ensures.is) (rw c.deref.ensures.value at (c.lead_of-start.ensures fold folds ts c.node.ensures.rules.test) (c.loop-id.invariant.1 fold folds)))),
+      λ fold folds. subst (KeepLeads tree fold ts) (sym items)
+          (keep_more (λ k s. IsSomeLead s (lead_in tree fold (tree_at ts k))) old start None
+          (c.loop-id.invariant.1 fold folds)
+          (rw (count, ← c.node.ensures.is) (rw c.deref.ensures.value at
+          (c.lead_of-start.ensures fold folds ts c.node.ensures.rules.test)
+          (c.loop-id.invariant.1 fold folds)))),
     )

@@ -14,11 +14,14 @@ returns-in-Repeat c trees tests kept =
     let sizes = c.args.sizes.now in
     let body = c.in-Repeat.body in
     let times = copies c.in-Repeat.min c.in-Repeat.max in
-    let below : All (λ k. k < length sizes) (body ∷ []) = subst (λ n. All (λ k. k < length sizes) (kids_of n)) c.in-Repeat.is c.requires.below in
-    let here : size_at sizes body ≡ size (tree_at trees body) = one_kept (λ k. size_at sizes k ≡ size (tree_at trees k)) body (length sizes) kept below in
+    let below : All (λ k. k < length sizes) (body ∷ []) =
+    subst (λ n. All (λ k. k < length sizes) (kids_of n)) c.in-Repeat.is c.requires.below in
+    let here : size_at sizes body ≡ size (tree_at trees body) =
+    one_kept (λ k. size_at sizes k ≡ size (tree_at trees k)) body (length sizes) kept below in
     rw c.in-Repeat.is
     (c.sum.ensures
-    ∙ ap (λ n. counted (1 + n)) (c.product.ensures ∙ ap (λ n. counted (n * size_at sizes body)) c.copies.ensures.is ∙ ap (λ n. counted (times * n)) here ∙ counted_times times (whole_size (tree_at trees body)))
+    ∙ ap (λ n. counted (1 + n)) (c.product.ensures ∙ ap (λ n. counted (n * size_at sizes body)) c.copies.ensures.is
+    ∙ ap (λ n. counted (times * n)) here ∙ counted_times times (whole_size (tree_at trees body)))
     ∙ counted_right 1 (times * whole_size (tree_at trees body)))
 
 pub returns-in-OneRepeat : goal.returns-in-OneRepeat
@@ -31,6 +34,8 @@ returns-in_default c trees tests kept =
     let sizes = c.args.sizes.now in
     let n = c.args.node.now in
     c.sum-in_default.ensures
-    ∙ ap (λ x. counted (1 + x)) (c.sum_of_kids.ensures ∙ sums trees (size_at sizes) (kids_of n) (all_kept (λ k. size_at sizes k ≡ size (tree_at trees k)) (kids_of n) (length sizes) kept c.requires.below))
+    ∙ ap (λ x. counted (1 + x)) (c.sum_of_kids.ensures
+    ∙ sums trees (size_at sizes) (kids_of n)
+    (all_kept (λ k. size_at sizes k ≡ size (tree_at trees k)) (kids_of n) (length sizes) kept c.requires.below))
     ∙ counted_right 1 (total trees (kids_of n))
     ∙ ap counted (sym (size_first trees n (no_repeat n c.in_default.not-Repeat c.in_default.not-OneRepeat) tests))

@@ -13,5 +13,6 @@ loop-id-preserved c =
     let count : length old ≡ c.loop-id.id = c.loop-id.invariant.0 in (
       ap length items ∙ length-append old (x ∷ []) ∙ ap (λ n. n + 1) count,
       subst (KeepSizes ts) (sym items) (keep_more (λ k n. n ≡ size (tree_at ts k)) old x 0 c.loop-id.invariant.1
-          (rw (count, ← c.node.ensures.is) (rw c.deref.ensures.value at (c.node_size-size.ensures ts c.node.ensures.rules.test) c.loop-id.invariant.1))),
+          (rw (count, ← c.node.ensures.is) (rw c.deref.ensures.value at
+          (c.node_size-size.ensures ts c.node.ensures.rules.test) c.loop-id.invariant.1))),
     )

@@ -6,4 +6,6 @@ use Rattle.pat_check.proofs.starts.followed.Goals as goal
 
 pub returns-then-not-first : goal.returns-then-not-first
 returns-then-not-first c x y h k =
-    then_stops c.begin.result c.in-Some.first x y c.if-not-first.true (λ has e. c.begin.ensures has (λ b l. ap (λ s. has_byte s b) c.copied.ensures ∙ e b l)) (subst (λ o. IsSomeLead o x) c.in-Some.is h)
+    then_stops c.begin.result c.in-Some.first x y c.if-not-first.true
+    (λ has e. c.begin.ensures has (λ b l. ap (λ s. has_byte s b) c.copied.ensures ∙ e b l))
+    (subst (λ o. IsSomeLead o x) c.in-Some.is h)

@@ -8,7 +8,8 @@ loop-i-preserved c =
     let i = c.loop-i.i in
     let within : i - 1 < length xs = omega (arith, c.loop-i.invariant.0, c.loop-i-test.true) in (
       omega (arith, c.loop-i.invariant.0),
-      λ of. parts_back c.args.starts.now of xs i c.index-starts-parts.result c.loop-i.whole c.followed-whole.result c.loop-i-test.true c.loop-i.invariant.0
+      λ of. parts_back c.args.starts.now of xs i c.index-starts-parts.result c.loop-i.whole c.followed-whole.result
+          c.loop-i-test.true c.loop-i.invariant.0
           (read_at c.args.starts.now xs (i - 1) c.index-starts-parts.result within c.requires c.index-starts-parts.is)
           (c.loop-i.invariant.1 of) c.followed-whole.ensures,
     )

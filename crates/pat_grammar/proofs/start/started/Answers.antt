@@ -12,7 +12,8 @@ returns-in_default c =
     let v = c.items.invariant.value in
     let p = positive 0 v.0 (omega (arith, v.1, c.items.invariant.within)) in
     record {
-      ok = v.2 ∙ rw (p.1) (start_ends c.args.text.now (state_from c.items.at c.items.options) p.0 c.in-Ok.token c.in-Ok.after (sym c.in-Ok.ensures.value) c.in_default.not-Start);
+      ok = v.2 ∙ rw (p.1) (start_ends c.args.text.now (state_from c.items.at c.items.options) p.0 c.in-Ok.token
+          c.in-Ok.after (sym c.in-Ok.ensures.value) c.in_default.not-Start);
       within = c.items.invariant.within;
       bad = tt;
       number = tt;
@@ -23,7 +24,9 @@ pub returns-then-begins_limit-clause-bad : goal.returns-then-begins_limit-clause
 returns-then-begins_limit-clause-bad c =
     let v = c.items.invariant.value in
     let p = positive 0 v.0 (omega (arith, v.1, c.items.invariant.within)) in
-    rw c.from.ensures (v.2 ∙ rw (p.1) (start_fault c.args.text.now (state_from c.items.at c.items.options) p.0 c.in-Err.fault (sym c.in-Err.ensures.value) (sym c.begins_limit.ensures ∙ c.if-begins_limit.true)))
+    rw c.from.ensures
+    (v.2 ∙ rw (p.1) (start_fault c.args.text.now (state_from c.items.at c.items.options) p.0 c.in-Err.fault
+    (sym c.in-Err.ensures.value) (sym c.begins_limit.ensures ∙ c.if-begins_limit.true)))
 
 pub returns-then-begins_limit-clause-number : goal.returns-then-begins_limit-clause-number
 returns-then-begins_limit-clause-number c = rw c.from.ensures (own_listed c.in-Err.fault.number c.in-Err.ensures.number)
@@ -35,7 +38,8 @@ pub returns-in-Err-clause-ok : goal.returns-in-Err-clause-ok
 returns-in-Err-clause-ok c =
     let v = c.items.invariant.value in
     let p = positive 0 v.0 (omega (arith, v.1, c.items.invariant.within)) in
-    v.2 ∙ rw (p.1) (start_over c.args.text.now (state_from c.items.at c.items.options) p.0 c.in-Err.fault (sym c.in-Err.ensures.value) (sym c.begins_limit.ensures ∙ c.if-begins_limit.false))
+    v.2 ∙ rw (p.1) (start_over c.args.text.now (state_from c.items.at c.items.options) p.0 c.in-Err.fault
+    (sym c.in-Err.ensures.value) (sym c.begins_limit.ensures ∙ c.if-begins_limit.false))
 
 pub items-preserved : goal.items-preserved
 items-preserved c =
@@ -48,7 +52,8 @@ items-preserved c =
         p.0,
         omega (arith, v.1, p.1, moves.0),
         v.2 ∙ ap (λ k. started c.args.text.now k (state_from c.items.at c.items.options)) p.1
-            ∙ start_item c.args.text.now (state_from c.items.at c.items.options) p.0 c.in-Ok.token c.in-Ok.after (sym c.in-Ok.ensures.value) c.in-Start.item c.in-Start.is
+            ∙ start_item c.args.text.now (state_from c.items.at c.items.options) p.0 c.in-Ok.token c.in-Ok.after
+            (sym c.in-Ok.ensures.value) c.in-Start.item c.in-Start.is
             ∙ ap (λ o. started c.args.text.now p.0 (state_from c.in-Ok.after o)) (sym c.with_item-options.ensures),
       );
     }

@@ -1,4 +1,5 @@
-use Rattle.std.proofs.Common.{◌≡◌, ◌∙◌, ◌≤◌, ◌+◌, ◌∷◌, ◌++◌, [], None, false, suc, inl, inr, ap, sym, subst, length, length-append, arith}
+use Rattle.std.proofs.Common.{◌≡◌, ◌∙◌, ◌≤◌, ◌+◌, ◌∷◌, ◌++◌, [], None, false, suc, inl, inr, ap, sym, subst, length}
+use Rattle.std.proofs.Common.{length-append, arith}
 use Rattle.std.proofs.lemmas.Bool.{cases_lt}
 use Rattle.std.proofs.lemmas.List.{get_or_past}
 use Rattle.pat_tree.specs.Groups.{group_of}
@@ -20,7 +21,9 @@ loop-target-preserved c =
     let items : c.push.new.self.items ≡ old ++ x ∷ [] = c.in_ok-push.ensures.items in
     let count : length old ≡ target = c.loop-target.invariant.0 in
     let here : x ≡ lengths.leads_back whole target = c.in_ok-leads_to_itself.ensures in
-    let more = keep_more (λ k b. b ≡ lengths.leads_back whole k) old x false (λ k l. c.loop-target.invariant.1 k (omega (arith, l, count))) (subst (λ k. x ≡ lengths.leads_back whole k) (sym count) here) in
+    let more = keep_more (λ k b. b ≡ lengths.leads_back whole k) old x false
+    (λ k l. c.loop-target.invariant.1 k (omega (arith, l, count)))
+    (subst (λ k. x ≡ lengths.leads_back whole k) (sym count) here) in
     let grown : length (old ++ x ∷ []) ≡ target + 1 = omega (arith, count, length-append old (x ∷ [])) in
     (ap length items ∙ grown, λ n l. ap (λ xs. flagged xs n) items ∙ more n (omega (arith, l, grown)))
 
@@ -35,6 +38,8 @@ returns c n =
       | inl l ↦ c.loop-target.invariant.1 n l
       | inr l ↦
           let past : place_of places n ≡ None = get_or_past places n None (omega (arith, all, l)) in
-          let none : group_of whole n ≡ None = subst (λ p. IsAt (trees t.nodes) t.root p (group_of whole n)) past (c.requires.places n) in
-          get_or_past back n false (omega (arith, c.loop-target.invariant.0, l)) ∙ sym (lost whole n (suc (captures whole)) n none)
+          let none : group_of whole n ≡ None = subst (λ p. IsAt (trees t.nodes) t.root p (group_of whole n)) past
+          (c.requires.places n) in
+          get_or_past back n false (omega (arith, c.loop-target.invariant.0, l))
+          ∙ sym (lost whole n (suc (captures whole)) n none)
     ]

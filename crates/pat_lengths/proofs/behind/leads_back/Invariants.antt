@@ -5,4 +5,5 @@ use Rattle.pat_lengths.specs.Passing.{flagged}
 use Rattle.pat_lengths.proofs.behind.leads_back.Given as goal
 
 abbrev pub invariant-loop-target : goal.invariant-loop-target
-invariant-loop-target l = (length l.back.items ≡ l.target) × ((n : ℕ) → n < l.target → flagged l.back.items n ≡ lengths.leads_back (tree_of l.tree) n)
+invariant-loop-target l = (length l.back.items ≡ l.target)
+    × ((n : ℕ) → n < l.target → flagged l.back.items n ≡ lengths.leads_back (tree_of l.tree) n)

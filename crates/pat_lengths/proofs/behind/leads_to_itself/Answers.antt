@@ -16,6 +16,8 @@ returns-then-not-flag_at c =
     let names = c.args.names.now in
     let place = place_of c.args.groups.now.places.items target in
     let told : passes_at names place ≡ false =
-    ap (λ p. passes_at names p) (sym (c.place_at.ensures ∙ ap (λ xs. place_of xs target) c.deref.ensures.value)) ∙ sym c.flag_at.ensures ∙ c.if-not-flag_at.true in
-    let answered = placed_answer Names (trees t.nodes) t.root [] names (λ n. false) place (group_of whole target) c.requires.count c.requires.kept (λ n. refl) (c.requires.table.places target) in
+    ap (λ p. passes_at names p) (sym (c.place_at.ensures ∙ ap (λ xs. place_of xs target) c.deref.ensures.value))
+    ∙ sym c.flag_at.ensures ∙ c.if-not-flag_at.true in
+    let answered = placed_answer Names (trees t.nodes) t.root [] names (λ n. false) place (group_of whole target)
+    c.requires.count c.requires.kept (λ n. refl) (c.requires.table.places target) in
     sym (leads_nowhere whole (λ n. false) target (suc (captures whole)) target (sym answered ∙ told))

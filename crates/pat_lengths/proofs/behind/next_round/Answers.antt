@@ -17,6 +17,7 @@ returns c d h =
     let count : length next ≡ length places = omega (arith, c.loop-number.invariant.0, c.loop-number-test.false) in
     record {
       any_is = h.any_is;
-      each = λ n. span_step unset whole (trees t.nodes) t.root d n spans next places c.args.back.now c.in_ok-spans.ensures.count keep c.requires.back c.requires.table.places count
+      each = λ n. span_step unset whole (trees t.nodes) t.root d n spans next places c.args.back.now
+          c.in_ok-spans.ensures.count keep c.requires.back c.requires.table.places count
           (λ i l. c.loop-number.invariant.1 i (omega (arith, l, count, c.loop-number.invariant.0)));
     }

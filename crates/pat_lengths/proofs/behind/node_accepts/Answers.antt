@@ -24,6 +24,7 @@ returns-in_default c trees tests kept =
     let flags = flagged c.args.accepts.now in
     let under = λ (k : ℕ). list_any is_accept (nodes_at false trees k) in
     c.some_kid.ensures
-    ∙ same_any flags under (kids_of n) (all_kept (λ k. flags k ≡ under k) (kids_of n) (length c.args.accepts.now) kept c.requires.below)
+    ∙ same_any flags under (kids_of n) (all_kept (λ k. flags k ≡ under k) (kids_of n) (length c.args.accepts.now) kept
+    c.requires.below)
     ∙ ap (λ b. b || list_any under (kids_of n)) (sym (no_accept trees n c.in_default.not-VerbNode))
     ∙ sym (any_first is_accept false trees n (is_open n c.in_default.not-Look) tests)

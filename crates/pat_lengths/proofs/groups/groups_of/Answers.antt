@@ -12,7 +12,8 @@ loop-i-preserved c =
     let i = c.loop-i.i in
     let back : i - 1 + 1 ≡ i = omega arith in
     let next : drop (i - 1) order ≡ get_or order (i - 1) 0 ∷ drop i order =
-    drop_more order (i - 1) 0 (omega (arith, c.loop-i.invariant.within)) ∙ ap (λ k. get_or order (i - 1) 0 ∷ drop k order) back in
+    drop_more order (i - 1) 0 (omega (arith, c.loop-i.invariant.within))
+    ∙ ap (λ k. get_or order (i - 1) 0 ∷ drop k order) back in
     record {
       within = omega arith;
       are =

@@ -11,7 +11,8 @@ use Rattle.pat_lengths.proofs.lengths.node_span.Goals as goal
 pub span_of_condition-requires : goal.span_of_condition-requires
 span_of_condition-requires c =
     let spans = c.args.spans.now in
-    branches_all (λ k. k < length spans) c.in-Cond.test c.in-Cond.yes c.in-Cond.no (subst (λ n. All (λ k. k < length spans) (kids_of n)) c.in-Cond.is c.requires.below)
+    branches_all (λ k. k < length spans) c.in-Cond.test c.in-Cond.yes c.in-Cond.no
+    (subst (λ n. All (λ k. k < length spans) (kids_of n)) c.in-Cond.is c.requires.below)
 
 pub returns-in-One : goal.returns-in-One
 unfolding lengths
@@ -26,10 +27,13 @@ unfolding lengths
 returns-in-Seq c trees unset whole of_group tests groups keep =
     let spans = c.args.spans.now in
     let kids = c.in-Seq.kids in
-    let below : All (λ k. k < length spans) kids = subst (λ n. All (λ k. k < length spans) (kids_of n)) c.in-Seq.is c.requires.below in
-    let turn = rw c.as_slice.ensures at (c.span_of_parts.ensures (λ k. lengths unset whole of_group (tree_at trees k))) in
+    let below : All (λ k. k < length spans) kids = subst (λ n. All (λ k. k < length spans) (kids_of n)) c.in-Seq.is
+    c.requires.below in
+    let turn = rw c.as_slice.ensures at
+    (c.span_of_parts.ensures (λ k. lengths unset whole of_group (tree_at trees k))) in
     rw c.in-Seq.is
-    (turn (all_kept (λ k. span_at spans k ≡ kept (lengths unset whole of_group (tree_at trees k))) kids (length spans) keep below)
+    (turn (all_kept (λ k. span_at spans k ≡ kept (lengths unset whole of_group (tree_at trees k))) kids (length spans)
+    keep below)
     ∙ ap kept (parts_lengths unset whole of_group trees kids))
 
 pub returns-in-Group : goal.returns-in-Group
@@ -37,10 +41,13 @@ unfolding lengths
 returns-in-Group c trees unset whole of_group tests groups keep =
     let spans = c.args.spans.now in
     let kids = c.in-Group.branches in
-    let below : All (λ k. k < length spans) kids = subst (λ n. All (λ k. k < length spans) (kids_of n)) c.in-Group.is c.requires.below in
-    let turn = rw c.as_slice-in-Group.ensures at (c.span_of_branches.ensures (λ k. lengths unset whole of_group (tree_at trees k))) in
+    let below : All (λ k. k < length spans) kids = subst (λ n. All (λ k. k < length spans) (kids_of n)) c.in-Group.is
+    c.requires.below in
+    let turn = rw c.as_slice-in-Group.ensures at
+    (c.span_of_branches.ensures (λ k. lengths unset whole of_group (tree_at trees k))) in
     rw c.in-Group.is
-    (turn (all_kept (λ k. span_at spans k ≡ kept (lengths unset whole of_group (tree_at trees k))) kids (length spans) keep below)
+    (turn (all_kept (λ k. span_at spans k ≡ kept (lengths unset whole of_group (tree_at trees k))) kids (length spans)
+    keep below)
     ∙ ap kept (branches_lengths unset whole of_group trees kids))
 
 pub returns-in-Atomic : goal.returns-in-Atomic
@@ -48,10 +55,13 @@ unfolding lengths
 returns-in-Atomic c trees unset whole of_group tests groups keep =
     let spans = c.args.spans.now in
     let kids = c.in-Atomic.branches in
-    let below : All (λ k. k < length spans) kids = subst (λ n. All (λ k. k < length spans) (kids_of n)) c.in-Atomic.is c.requires.below in
-    let turn = rw c.as_slice-in-Atomic.ensures at (c.span_of_branches-in-Atomic.ensures (λ k. lengths unset whole of_group (tree_at trees k))) in
+    let below : All (λ k. k < length spans) kids = subst (λ n. All (λ k. k < length spans) (kids_of n)) c.in-Atomic.is
+    c.requires.below in
+    let turn = rw c.as_slice-in-Atomic.ensures at
+    (c.span_of_branches-in-Atomic.ensures (λ k. lengths unset whole of_group (tree_at trees k))) in
     rw c.in-Atomic.is
-    (turn (all_kept (λ k. span_at spans k ≡ kept (lengths unset whole of_group (tree_at trees k))) kids (length spans) keep below)
+    (turn (all_kept (λ k. span_at spans k ≡ kept (lengths unset whole of_group (tree_at trees k))) kids (length spans)
+    keep below)
     ∙ ap kept (branches_lengths unset whole of_group trees kids))
 
 pub returns-in-Repeat : goal.returns-in-Repeat
@@ -59,10 +69,12 @@ unfolding lengths
 returns-in-Repeat c trees unset whole of_group tests groups keep =
     let spans = c.args.spans.now in
     let body = c.in-Repeat.body in
-    let below : All (λ k. k < length spans) (body ∷ []) = subst (λ n. All (λ k. k < length spans) (kids_of n)) c.in-Repeat.is c.requires.below in
+    let below : All (λ k. k < length spans) (body ∷ []) =
+    subst (λ n. All (λ k. k < length spans) (kids_of n)) c.in-Repeat.is c.requires.below in
     rw c.in-Repeat.is
     (c.in_turns.ensures (lengths unset whole of_group (tree_at trees body))
-    (one_kept (λ k. span_at spans k ≡ kept (lengths unset whole of_group (tree_at trees k))) body (length spans) keep below))
+    (one_kept (λ k. span_at spans k ≡ kept (lengths unset whole of_group (tree_at trees k))) body (length spans) keep
+    below))
 
 pub returns-in-OneRepeat : goal.returns-in-OneRepeat
 unfolding lengths
@@ -76,16 +88,20 @@ returns-in-Cond c trees unset whole of_group tests groups keep =
     let first = c.in-Cond.yes in
     let second = c.in-Cond.no in
     let below : All (λ k. k < length spans) (first ∷ number_in second) =
-    branches_all (λ k. k < length spans) test first second (subst (λ n. All (λ k. k < length spans) (kids_of n)) c.in-Cond.is c.requires.below) in
-    let tested : All (λ k. is_test (tree_at trees k) ≡ true) (tests_of test) = subst (λ n. All (λ k. is_test (tree_at trees k) ≡ true) (asserted_by n)) c.in-Cond.is tests in
+    branches_all (λ k. k < length spans) test first second
+    (subst (λ n. All (λ k. k < length spans) (kids_of n)) c.in-Cond.is c.requires.below) in
+    let tested : All (λ k. is_test (tree_at trees k) ≡ true) (tests_of test) =
+    subst (λ n. All (λ k. is_test (tree_at trees k) ≡ true) (asserted_by n)) c.in-Cond.is tests in
     rw c.in-Cond.is
     (c.span_of_condition.ensures (λ k. lengths unset whole of_group (tree_at trees k))
-    (all_kept (λ k. span_at spans k ≡ kept (lengths unset whole of_group (tree_at trees k))) (first ∷ number_in second) (length spans) keep below)
+    (all_kept (λ k. span_at spans k ≡ kept (lengths unset whole of_group (tree_at trees k)))
+    (first ∷ number_in second) (length spans) keep below)
     ∙ ap kept (condition_lengths unset whole of_group trees test first second tested))
 
 pub returns-in-Call : goal.returns-in-Call
 unfolding lengths
-returns-in-Call c trees unset whole of_group tests groups keep = rw c.in-Call.is (c.span_of_group.ensures ∙ groups.each c.in-Call.group)
+returns-in-Call c trees unset whole of_group tests groups keep =
+    rw c.in-Call.is (c.span_of_group.ensures ∙ groups.each c.in-Call.group)
 
 pub returns-in-Ref : goal.returns-in-Ref
 unfolding lengths
@@ -97,4 +113,5 @@ pub returns-in_default : goal.returns-in_default
 returns-in_default c trees unset whole of_group tests groups keep =
     let n = c.in_default in
     c.only-in_default.ensures
-    ∙ ap kept (sym (other_lengths unset whole of_group trees c.args.node.now n.not-One n.not-Break n.not-Seq n.not-Group n.not-Repeat n.not-OneRepeat n.not-Atomic n.not-Cond n.not-Call n.not-Ref))
+    ∙ ap kept (sym (other_lengths unset whole of_group trees c.args.node.now n.not-One n.not-Break n.not-Seq
+    n.not-Group n.not-Repeat n.not-OneRepeat n.not-Atomic n.not-Cond n.not-Call n.not-Ref))

@@ -6,7 +6,8 @@ use Rattle.pat_lengths.proofs.lengths.span_of_branches.Given as goal
 abbrev pub invariant-loop-i : goal.invariant-loop-i
 invariant-loop-i l = record {
   within : l.i ≤ length l.branches;
-  is : (of : ℕ → SomeLengths) → All (λ k. span_at l.spans k ≡ kept (of k)) l.branches → l.whole ≡ kept (lengths_of_branches of (drop l.i l.branches));
+  is : (of : ℕ → SomeLengths) → All (λ k. span_at l.spans k ≡ kept (of k)) l.branches
+      → l.whole ≡ kept (lengths_of_branches of (drop l.i l.branches));
 }
 
 abbrev pub decreases-loop-i : goal.decreases-loop-i

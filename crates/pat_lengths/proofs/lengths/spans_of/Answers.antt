@@ -16,6 +16,8 @@ loop-id-preserved c =
       count = ap length items ∙ length-append old (x ∷ []) ∙ ap (λ n. n + 1) count;
       kept = λ unset whole of_group groups.
           let before = c.loop-id.invariant.kept unset whole of_group groups in
-          subst (KeepSpans (lengths unset whole of_group) ts) (sym items) (keep_more (λ k s. s ≡ kept (lengths unset whole of_group (tree_at ts k))) old x None before
-          (rw (count, ← c.node.ensures.is) (rw c.deref.ensures.value at (c.node_span-span.ensures ts unset whole of_group c.node.ensures.rules.test groups) before)));
+          subst (KeepSpans (lengths unset whole of_group) ts) (sym items)
+          (keep_more (λ k s. s ≡ kept (lengths unset whole of_group (tree_at ts k))) old x None before
+          (rw (count, ← c.node.ensures.is) (rw c.deref.ensures.value at
+          (c.node_span-span.ensures ts unset whole of_group c.node.ensures.rules.test groups) before)));
     }

@@ -7,5 +7,6 @@ use Rattle.pat_lengths.proofs.lengths.spans_of.Given as goal
 abbrev pub invariant-loop-id : goal.invariant-loop-id
 invariant-loop-id l = record {
   count : length l.spans.items ≡ l.id;
-  kept : (unset : Bool) (whole : Nested) (of_group : ℕ → SomeLengths) → KeepGroups unset whole of_group l.any l.groups → KeepSpans (lengths unset whole of_group) (trees l.tree.nodes) l.spans.items;
+  kept : (unset : Bool) (whole : Nested) (of_group : ℕ → SomeLengths) → KeepGroups unset whole of_group l.any l.groups
+      → KeepSpans (lengths unset whole of_group) (trees l.tree.nodes) l.spans.items;
 }

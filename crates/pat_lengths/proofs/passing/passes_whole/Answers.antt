@@ -22,7 +22,10 @@ returns c =
     let passing = c.in_ok-passing.passing.items in
     let within : t.root < length passing = omega (arith, c.in_ok-passing.ensures.count) in
     let read : c.index.result.now ≡ get_or passing t.root c.index.result.now = rw c.root.ensures at c.index.ensures in
-    let settled : AreRounds (Passes any) whole (suc (captures whole)) can = subst (λ b. AreRounds (Passes b) whole (suc (captures whole)) can) is (subst (λ n. AreRounds (Passes c.has_any_length.result) whole (suc n) can) c.requires.count c.in_ok-can.ensures) in
+    let settled : AreRounds (Passes any) whole (suc (captures whole)) can =
+    subst (λ b. AreRounds (Passes b) whole (suc (captures whole)) can) is
+    (subst (λ n. AreRounds (Passes c.has_any_length.result) whole (suc n) can) c.requires.count
+    c.in_ok-can.ensures) in
     read ∙ get_or_default passing t.root c.index.result.now false within
     ∙ (rw c.deref.ensures.value at c.in_ok-passing.ensures.kept) t.root within
     ∙ ap (λ b. passes b (flagged can) whole) is

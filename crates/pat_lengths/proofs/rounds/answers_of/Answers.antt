@@ -13,6 +13,9 @@ returns-then-eq c =
     let whole = tree_of c.args.tree.now in
     let q = c.args.question in
     let of = c.loop.of.items in
-    let same : c.in_ok-next.next.items ≡ of = sym c.as_slice.ensures.value ∙ same_flags c.as_slice.result.now c.as_slice-in-loop.result.now (sym c.eq.ensures ∙ c.if-eq.true) ∙ c.as_slice-in-loop.ensures.value in
+    let same : c.in_ok-next.next.items ≡ of = sym c.as_slice.ensures.value
+    ∙ same_flags c.as_slice.result.now c.as_slice-in-loop.result.now (sym c.eq.ensures ∙ c.if-eq.true)
+    ∙ c.as_slice-in-loop.ensures.value in
     let next = rw c.deref-in-loop-2.ensures.value at c.in_ok-next.ensures in
-    held (λ d. AreRounds q whole d of) (λ d h. subst (AreRounds q whole (suc d)) same (next d h)) (suc c.loop.counter) (suc c.args.groups.now.count) (omega (arith, c.loop-test.true)) c.loop.invariant
+    held (λ d. AreRounds q whole d of) (λ d h. subst (AreRounds q whole (suc d)) same (next d h)) (suc c.loop.counter)
+    (suc c.args.groups.now.count) (omega (arith, c.loop-test.true)) c.loop.invariant

@@ -13,6 +13,8 @@ returns c d h n =
     let answers = c.in_ok-answers.answers.items in
     let places = c.args.places.now in
     let whole : length places ≤ c.loop-place.place-index = omega (arith, c.loop-place-test.false) in
-    let items : c.loop-place.next.items ≡ map (passes_at answers) places = c.loop-place.invariant ∙ ap (map (passes_at answers)) (take_all c.loop-place.place-index places whole) in
+    let items : c.loop-place.next.items ≡ map (passes_at answers) places = c.loop-place.invariant
+    ∙ ap (map (passes_at answers)) (take_all c.loop-place.place-index places whole) in
     ap (λ xs. flagged xs n) items ∙ get_or-map (passes_at answers) places n None
-    ∙ round_step c.args.question (tree_of t) (trees t.nodes) t.root d n c.args.of.now answers (place_of places n) c.in_ok-answers.ensures.count c.in_ok-answers.ensures.kept h (c.requires.places n)
+    ∙ round_step c.args.question (tree_of t) (trees t.nodes) t.root d n c.args.of.now answers (place_of places n)
+    c.in_ok-answers.ensures.count c.in_ok-answers.ensures.kept h (c.requires.places n)

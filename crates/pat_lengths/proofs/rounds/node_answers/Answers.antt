@@ -15,6 +15,8 @@ loop-id-preserved c =
     let items : c.push.new.self.items ≡ old ++ x ∷ [] = c.in_ok-push.ensures.items in
     let count : length old ≡ c.loop-id.id = c.loop-id.invariant.0 in (
       ap length items ∙ length-append old (x ∷ []) ∙ ap (λ n. n + 1) count,
-      subst (KeepAnswers q of ts) (sym items) (keep_more (λ k b. b ≡ answer q (flagged of) (tree_at ts k)) old x false c.loop-id.invariant.1
-          (rw (count, ← c.node.ensures.is) (rw c.deref.ensures.value at (c.node_answer-answer.ensures ts c.node.ensures.rules.test) c.loop-id.invariant.1))),
+      subst (KeepAnswers q of ts) (sym items) (keep_more (λ k b. b ≡ answer q (flagged of) (tree_at ts k)) old x false
+          c.loop-id.invariant.1
+          (rw (count, ← c.node.ensures.is) (rw c.deref.ensures.value at
+          (c.node_answer-answer.ensures ts c.node.ensures.rules.test) c.loop-id.invariant.1))),
     )

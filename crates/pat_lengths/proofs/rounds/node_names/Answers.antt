@@ -28,4 +28,5 @@ returns-in_default c trees tests kept =
     let flags = flagged c.args.naming.now in
     c.some_kid.ensures
     ∙ named_first p trees flags n (no_names trees n c.in_default.not-Call c.in_default.not-Ref) tests
-    (all_kept (λ k. flags k ≡ list_any p (named_in (tree_at trees k))) (kids_of n) (length c.args.naming.now) kept c.requires.below)
+    (all_kept (λ k. flags k ≡ list_any p (named_in (tree_at trees k))) (kids_of n) (length c.args.naming.now) kept
+    c.requires.below)

@@ -5,4 +5,5 @@ use Rattle.pat_lex.proofs.classes.all_ignored_end.Given as goal
 
 abbrev pub invariant-loop-turn : goal.invariant-loop-turn
 invariant-loop-turn l =
-    (l.from ≤ l.i) × (l.i ≤ length l.text) × (skip (ignored_end l.text l.flags) (length l.text - l._turn) l.i ≡ all_ignored_end l.text l.flags l.from)
+    (l.from ≤ l.i) × (l.i ≤ length l.text) × (skip (ignored_end l.text l.flags) (length l.text - l._turn)
+    l.i ≡ all_ignored_end l.text l.flags l.from)

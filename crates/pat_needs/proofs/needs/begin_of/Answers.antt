@@ -13,7 +13,8 @@ returns c kept =
     let within : t.root < length begins = omega (arith, c.requires) in
     let read : begun ≡ get_or begins t.root begun = rw c.root.ensures at c.index-begins-root.is in
     let is : begun ≡ get_or begins t.root None = read ∙ get_or_default begins t.root begun None within in
-    needs_at (may_of t) t.options.utf (tree_of t) begun c.copy_of.result c.at_once-here.result c.behind_begin.result c.nearer.result c.told.result
+    needs_at (may_of t) t.options.utf (tree_of t) begun c.copy_of.result c.at_once-here.result c.behind_begin.result
+    c.nearer.result c.told.result
     (subst (IsNeed (may_of t) t.options.utf false (tree_of t)) (sym is) (kept t.root within))
     (copied_from begun c.copy_of.result c.copy_of.ensures.some c.copy_of.ensures.none)
     c.at_once-here.ensures (c.behind_begin.ensures kept) c.nearer.ensures c.told.ensures

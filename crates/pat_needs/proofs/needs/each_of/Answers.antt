@@ -11,9 +11,11 @@ loop-i-preserved c =
     record {
       within = omega (arith, c.loop-i.invariant.within);
       is = λ may utf anywhere of.
-          needs_back may utf anywhere of c.args.needs.now xs i c.index-needs-branches.result (λ ts. AreAllNeeds may utf anywhere ts c.loop-i.whole)
+          needs_back may utf anywhere of c.args.needs.now xs i c.index-needs-branches.result
+          (λ ts. AreAllNeeds may utf anywhere ts c.loop-i.whole)
           (λ ts. AreAllNeeds may utf anywhere ts c.joined-whole.result) c.loop-i-test.true c.loop-i.invariant.within
-          (need_read c.args.needs.now xs (i - 1) c.index-needs-branches.result below c.requires c.index-needs-branches.is)
+          (need_read c.args.needs.now xs (i - 1) c.index-needs-branches.result below c.requires
+          c.index-needs-branches.is)
           (c.loop-i.invariant.is may utf anywhere of) (c.joined-whole.ensures may utf anywhere);
     }
 

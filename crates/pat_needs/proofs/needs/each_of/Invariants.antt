@@ -7,7 +7,8 @@ use Rattle.pat_needs.proofs.needs.each_of.Given as goal
 abbrev pub invariant-loop-i : goal.invariant-loop-i
 invariant-loop-i l = record {
   within : l.i ≤ length l.branches;
-  is : (may : Item → ℕ → Bool) (utf anywhere : Bool) (of : ℕ → Nested) → AreNeeds may utf anywhere of l.needs (drop l.i l.branches)
+  is : (may : Item → ℕ → Bool) (utf anywhere : Bool) (of : ℕ → Nested)
+      → AreNeeds may utf anywhere of l.needs (drop l.i l.branches)
       → AreAllNeeds may utf anywhere (row (map of (drop l.i l.branches))) l.whole;
 }
 

@@ -9,4 +9,5 @@ returns-in-One c classes trees = rw c.in-One.is (refl, c.is_short.ensures classe
 pub returns-in-OneRepeat : goal.returns-in-OneRepeat
 returns-in-OneRepeat c classes trees =
     let here = c.in-OneRepeat in
-    rw here.is (repeat_long (may_take c.args.utf classes) c.args.utf here.item here.min here.max here.lazy c.repeat_length.result (c.repeat_length.ensures classes))
+    rw here.is (repeat_long (may_take c.args.utf classes) c.args.utf here.item here.min here.max here.lazy
+    c.repeat_length.result (c.repeat_length.ensures classes))

@@ -12,7 +12,8 @@ returns-in-75-clause-takes c =
     let is : ascii_fold c.args.c ≡ 107 = grind (arith, nat_tests) in
     rare_serves c.with_byte.result c.cased.result c.cased.ensures.bytes
     (λ bytes. (b : ℕ) → b < 256 → may_begin true c.args.c b ≡ true → has_byte bytes b ≡ true)
-    (λ b small h. c.with_byte.ensures b ∙ ap (λ (x : Bool). x || b == 0xE2) (c.both_cases.ensures b small) ∙ or_byte c.args.c b 0xE2 low (kelvin_past c.args.c b low is) h)
+    (λ b small h. c.with_byte.ensures b ∙ ap (λ (x : Bool). x || b == 0xE2) (c.both_cases.ensures b small)
+    ∙ or_byte c.args.c b 0xE2 low (kelvin_past c.args.c b low is) h)
 
 pub returns-in-83-clause-takes : goal.returns-in-83-clause-takes
 returns-in-83-clause-takes c =
@@ -20,7 +21,8 @@ returns-in-83-clause-takes c =
     let is : ascii_fold c.args.c ≡ 115 = grind (arith, nat_tests) in
     rare_serves c.with_byte-in-83.result c.cased-in-83.result c.cased-in-83.ensures.bytes
     (λ bytes. (b : ℕ) → b < 256 → may_begin true c.args.c b ≡ true → has_byte bytes b ≡ true)
-    (λ b small h. c.with_byte-in-83.ensures b ∙ ap (λ (x : Bool). x || b == 0xC5) (c.both_cases-in-83.ensures b small) ∙ or_byte c.args.c b 0xC5 low (long_s_past c.args.c b low is) h)
+    (λ b small h. c.with_byte-in-83.ensures b ∙ ap (λ (x : Bool). x || b == 0xC5) (c.both_cases-in-83.ensures b small)
+    ∙ or_byte c.args.c b 0xC5 low (long_s_past c.args.c b low is) h)
 
 pub returns-in-0-to-127-clause-takes : goal.returns-in-0-to-127-clause-takes
 returns-in-0-to-127-clause-takes c =

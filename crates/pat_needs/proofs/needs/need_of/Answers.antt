@@ -30,6 +30,10 @@ returns c =
     c.in_ok-bounds.ensures.kept c.in_ok-needs.ensures.kept in
     need_whole t c.in-Some.bound c.lacking_of-lacking.result c.with_bound.result bounded lacking
     c.with_bound.ensures.lacking
-    (begin_kept (λ begin. NeedsAt (may_of t) t.options.utf (sets_of begin.text) begin.distance (tree_of t)) c.with_bound.result c.begin_of-begin.result c.with_bound.ensures.begin ((rw c.deref-3.ensures.value at c.begin_of-begin.ensures) c.in_ok-begins.ensures.kept))
-    (other_kept (λ other. Needs (may_of t) t.options.utf true (sets_of other) (tree_of t)) c.with_bound.result c.further_on-other.result c.with_bound.ensures.other ((rw c.deref-4.ensures.value at c.further_on-other.ensures) c.in_ok-needs.ensures.kept))
+    (begin_kept (λ begin. NeedsAt (may_of t) t.options.utf (sets_of begin.text) begin.distance (tree_of t))
+    c.with_bound.result c.begin_of-begin.result c.with_bound.ensures.begin
+    ((rw c.deref-3.ensures.value at c.begin_of-begin.ensures) c.in_ok-begins.ensures.kept))
+    (other_kept (λ other. Needs (may_of t) t.options.utf true (sets_of other) (tree_of t)) c.with_bound.result
+    c.further_on-other.result c.with_bound.ensures.other
+    ((rw c.deref-4.ensures.value at c.further_on-other.ensures) c.in_ok-needs.ensures.kept))
     c.with_bound.ensures.bound

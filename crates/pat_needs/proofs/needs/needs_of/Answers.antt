@@ -14,6 +14,10 @@ loop-id-preserved c =
     let items : c.push.new.self.items ≡ old ++ need ∷ [] = c.in_ok-push.ensures.items in
     let count : length old ≡ c.loop-id.id = c.loop-id.invariant.0 in (
       ap length items ∙ length-append old (need ∷ []) ∙ ap (λ n. n + 1) count,
-      subst (KeepNeeds (may_of tree) tree.options.utf c.args.anywhere ts) (sym items) (keep_more (λ k s. IsNeed (may_of tree) tree.options.utf c.args.anywhere (tree_at ts k) s) old need None c.loop-id.invariant.1
-          (rw (count, ← c.node.ensures.is) (rw c.deref.ensures.value at (c.node_need-need.ensures tree c.requires (ap (λ (o : Options). o.utf) (sym c.options.ensures)) ts) c.loop-id.invariant.1))),
+      subst (KeepNeeds (may_of tree) tree.options.utf c.args.anywhere ts) (sym items)
+          (keep_more (λ k s. IsNeed (may_of tree) tree.options.utf c.args.anywhere (tree_at ts k) s) old need None
+          c.loop-id.invariant.1
+          (rw (count, ← c.node.ensures.is) (rw c.deref.ensures.value at
+          (c.node_need-need.ensures tree c.requires (ap (λ (o : Options). o.utf) (sym c.options.ensures)) ts)
+          c.loop-id.invariant.1))),
     )

@@ -17,18 +17,25 @@ loop-i-preserved c =
     record {
       within = omega (arith, c.loop-i.invariant.within);
       is = λ may utf of.
-          needs_back may utf anywhere of needs xs i first (λ ts. IsRun may utf ts c.loop-i.run × IsSomeNeed may utf anywhere ts c.loop-i.best)
-          (λ ts. IsRun may utf ts run × IsSomeNeed may utf anywhere ts c.rarer-best.result) c.loop-i-test.true c.loop-i.invariant.within
+          needs_back may utf anywhere of needs xs i first
+          (λ ts. IsRun may utf ts c.loop-i.run × IsSomeNeed may utf anywhere ts c.loop-i.best)
+          (λ ts. IsRun may utf ts run × IsSomeNeed may utf anywhere ts c.rarer-best.result) c.loop-i-test.true
+          c.loop-i.invariant.within
           (need_read needs xs (i - 1) first below c.requires c.index-needs-parts.is) (c.loop-i.invariant.is may utf of)
           (λ t ts need had.
           let begun = c.run_from-run.ensures may utf anywhere t ts need had.0 in (
             begun,
-            some_of_three may utf anywhere (tree.more t ts) earlier c.copy_below.result c.copy_below-in-loop-i.result c.rarer-best.result c.rarer-best.ensures
+            some_of_three may utf anywhere (tree.more t ts) earlier c.copy_below.result c.copy_below-in-loop-i.result
+                c.rarer-best.result c.rarer-best.ensures
                 (some_later may utf anywhere t ts c.loop-i.best earlier c.kept_if-earlier.ensures had.1)
-                (some_part may utf anywhere t ts first c.copy_below.result need c.copy_below.ensures.item c.copy_below.ensures.some c.copy_below.ensures.none)
-                (some_run may utf anywhere t ts run c.copy_below-in-loop-i.result begun c.copy_below-in-loop-i.ensures.item c.copy_below-in-loop-i.ensures.some c.copy_below-in-loop-i.ensures.none),
+                (some_part may utf anywhere t ts first c.copy_below.result need c.copy_below.ensures.item
+                c.copy_below.ensures.some c.copy_below.ensures.none)
+                (some_run may utf anywhere t ts run c.copy_below-in-loop-i.result begun
+                c.copy_below-in-loop-i.ensures.item c.copy_below-in-loop-i.ensures.some
+                c.copy_below-in-loop-i.ensures.none),
           ));
     }
 
 pub returns : goal.returns
-returns c may utf of kept = let done : c.loop-i.i ≡ 0 = omega (arith, c.loop-i-test.false) in let all = rw done at (c.loop-i.invariant.is may utf of) in (all kept).1
+returns c may utf of kept = let done : c.loop-i.i ≡ 0 = omega (arith, c.loop-i-test.false) in let all =
+    rw done at (c.loop-i.invariant.is may utf of) in (all kept).1

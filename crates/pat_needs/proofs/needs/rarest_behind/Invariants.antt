@@ -8,7 +8,8 @@ invariant-loop-i l = record {
   within : l.i ≤ length l.parts;
   is : AreNeeds (may_of l.tree) l.tree.options.utf false (tree_at (trees l.tree.nodes)) l.begins (drop l.i l.parts)
       → IsRun (may_of l.tree) l.tree.options.utf (row (map (tree_at (trees l.tree.nodes)) (drop l.i l.parts))) l.run
-      × IsDistant (may_of l.tree) l.tree.options.utf (row (map (tree_at (trees l.tree.nodes)) (drop l.i l.parts))) l.best;
+      × IsDistant (may_of l.tree) l.tree.options.utf (row (map (tree_at (trees l.tree.nodes)) (drop l.i l.parts)))
+      l.best;
 }
 
 abbrev pub decreases-loop-i : goal.decreases-loop-i

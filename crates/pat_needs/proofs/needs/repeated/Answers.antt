@@ -12,4 +12,5 @@ returns-in-Some-clause-begins c may item h =
     let told : IsItemNeed may utf item taken = subst (λ o. IfSome o (IsItemNeed may utf item)) c.in-Some.is h in
     let row = c.places_in_row-places in
     subst (λ sets. Begins may utf sets (copies c.args.times item)) (sym c.repeated.ensures)
-    (copies_begin may utf item taken.bytes row.result c.args.times row.ensures.within told.0 (λ two. c.is_one_byte.ensures may item told (row.ensures.short two)))
+    (copies_begin may utf item taken.bytes row.result c.args.times row.ensures.within told.0
+    (λ two. c.is_one_byte.ensures may item told (row.ensures.short two)))

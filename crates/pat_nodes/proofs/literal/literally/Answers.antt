@@ -24,7 +24,9 @@ parsed o t cs ns rs n vs = record {
   places = map (λ r. r.at) rs;
 }
 
-parsed_is : (d : DraftParts) (root : ℕ) (o : Options) (t : Nested) → d.options ≡ o → tree_at (trees d.nodes) root ≡ t → d.classes ≡ [] → d.names ≡ [] → references_of d.nodes ≡ [] → greatest (group_numbers d.nodes) ≡ 0 → d.verb_names ≡ [] →
+parsed_is : (d : DraftParts) (root : ℕ) (o : Options) (t : Nested) → d.options ≡ o → tree_at (trees d.nodes) root ≡ t
+    → d.classes ≡ [] → d.names ≡ [] → references_of d.nodes ≡ [] → greatest (group_numbers d.nodes) ≡ 0
+    → d.verb_names ≡ [] →
     parsed_of (with_root d root) ≡ parsed o t [] [] [] 0 []
 parsed_is d root o t options tree classes names references groups verb_names =
     let n : ℕ = greatest (group_numbers d.nodes) in
@@ -39,7 +41,9 @@ parsed_is d root o t options tree classes names references groups verb_names =
 pub unreachable-requires : goal.unreachable-requires
 unfolding refs
 unreachable-requires c =
-    let none : refs c.group.new.draft.nodes ≡ [] = (closes_plain (rw c.plain.ensures at c.in_ok-root.ensures.closes)).refs_are ∙ c.in_ok-parts.ensures.adds.refs_are ∙ ap (λ d. refs d.nodes) c.new-draft.ensures in
+    let none : refs c.group.new.draft.nodes ≡ [] =
+    (closes_plain (rw c.plain.ensures at c.in_ok-root.ensures.closes)).refs_are
+    ∙ c.in_ok-parts.ensures.adds.refs_are ∙ ap (λ d. refs d.nodes) c.new-draft.ensures in
     no_bad (has_group c.group.new.draft.nodes) (refs c.group.new.draft.nodes) c.in-Err.field-0.at none c.in-Err.ensures
 
 pub returns-clause-under : goal.returns-clause-under
@@ -48,18 +52,22 @@ returns-clause-under c =
 
 pub returns-clause-turns : goal.returns-clause-turns
 returns-clause-turns c =
-    rw c.in-Ok.ensures.0 (c.in_ok-root.ensures.closes.turns (c.in_ok-parts.ensures.adds.turns (rw c.new-draft.ensures tt)))
+    rw c.in-Ok.ensures.0 (c.in_ok-root.ensures.closes.turns
+    (c.in_ok-parts.ensures.adds.turns (rw c.new-draft.ensures tt)))
 
 pub returns-clause-parsed : goal.returns-clause-parsed
 unfolding literally references_of
 returns-clause-parsed c =
     let d = c.group.new.draft in
-    let made = rw (c.new-branches.ensures, c.plain.ensures, c.in_ok-parts.ensures.stand.trees_are) at c.in_ok-root.ensures.made in
+    let made = rw (c.new-branches.ensures, c.plain.ensures, c.in_ok-parts.ensures.stand.trees_are) at
+    c.in_ok-root.ensures.made in
     let one = c.in_ok-parts.ensures.adds in
     let two = closes_plain (rw c.plain.ensures at c.in_ok-root.ensures.closes) in
     let start = c.new-draft.ensures in
     ap parsed_of c.in-Ok.ensures.0
-    ∙ parsed_is d c.in_ok-root.root c.args.options _ (two.options ∙ one.options ∙ ap (λ v. v.options) start) made.is (two.classes ∙ one.classes ∙ ap (λ v. v.classes) start)
-    (two.names ∙ one.names ∙ ap (λ v. v.names) start) (two.references ∙ one.references ∙ ap (λ v. references_of v.nodes) start)
+    ∙ parsed_is d c.in_ok-root.root c.args.options _ (two.options ∙ one.options ∙ ap (λ v. v.options) start) made.is
+    (two.classes ∙ one.classes ∙ ap (λ v. v.classes) start)
+    (two.names ∙ one.names ∙ ap (λ v. v.names) start) (two.references ∙ one.references
+    ∙ ap (λ v. references_of v.nodes) start)
     (greatest_none d.nodes (λ n. two.groups n ∙ one.groups n ∙ ap (λ v. has_group v.nodes n) start))
     (two.verb_names ∙ one.verb_names ∙ ap (λ v. v.verb_names) start)

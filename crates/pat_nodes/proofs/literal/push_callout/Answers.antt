@@ -31,6 +31,7 @@ returns c =
     rw (on, c.in_ok-push.ensures.ok) (record {
       stand = λ ts s. stand_made e.made s;
       loose_is = λ h. e.replaces kids (h ∙ sym (append-nil kids));
-      adds = adds_node c.args.draft.now c.add.new.self _ e.grows e.refs refl refl e.groups (λ n. refl) (none_taken c.args.draft.now.nodes);
+      adds = adds_node c.args.draft.now c.add.new.self _ e.grows e.refs refl refl e.groups (λ n. refl)
+          (none_taken c.args.draft.now.nodes);
       count = omega (arith, e.count);
     })

@@ -19,7 +19,8 @@ pub returns-in_ok-id-in-Group-clause-closes : goal.returns-in_ok-id-in-Group-cla
 unfolding places_named
 returns-in_ok-id-in-Group-clause-closes c =
     let e = c.in_ok-id-in-Group.ensures in
-    rw c.in-Group.is (closes_node c.args.draft.now c.add.new.self _ (grouped c.in-Group.number) e.grows e.refs refl refl e.groups (λ n. one_number c.in-Group.number n) c.requires.loose)
+    rw c.in-Group.is (closes_node c.args.draft.now c.add.new.self _ (grouped c.in-Group.number) e.grows e.refs refl
+    refl e.groups (λ n. one_number c.in-Group.number n) c.requires.loose)
 
 pub add-requires-in-Atomic-clause-fresh : goal.add-requires-in-Atomic-clause-fresh
 add-requires-in-Atomic-clause-fresh c = fresh_at_end c.requires.loose
@@ -28,7 +29,8 @@ pub returns-in_ok-id-in-Atomic-clause-closes : goal.returns-in_ok-id-in-Atomic-c
 unfolding places_named
 returns-in_ok-id-in-Atomic-clause-closes c =
     let e = c.in_ok-id-in-Atomic.ensures in
-    rw c.in-Atomic.is (closes_node c.args.draft.now c.add-in-Atomic.new.self _ atomically e.grows e.refs refl refl e.groups (λ n. refl) c.requires.loose)
+    rw c.in-Atomic.is (closes_node c.args.draft.now c.add-in-Atomic.new.self _ atomically e.grows e.refs refl refl
+    e.groups (λ n. refl) c.requires.loose)
 
 pub add-requires-in-Look-clause-fresh : goal.add-requires-in-Look-clause-fresh
 add-requires-in-Look-clause-fresh c = fresh_at_end c.requires.loose
@@ -37,7 +39,9 @@ pub returns-in_ok-id-in-Look-clause-closes : goal.returns-in_ok-id-in-Look-claus
 unfolding places_named
 returns-in_ok-id-in-Look-clause-closes c =
     let e = c.in_ok-id-in-Look.ensures in
-    rw c.in-Look.is (closes_node c.args.draft.now c.add-in-Look.new.self _ (looks c.in-Look.ahead c.in-Look.positive c.in-Look.atomic) e.grows e.refs refl refl e.groups (λ n. refl) c.requires.loose)
+    rw c.in-Look.is (closes_node c.args.draft.now c.add-in-Look.new.self _
+    (looks c.in-Look.ahead c.in-Look.positive c.in-Look.atomic) e.grows e.refs refl refl e.groups (λ n. refl)
+    c.requires.loose)
 
 pub add-requires-in-Asserted-clause-fresh : goal.add-requires-in-Asserted-clause-fresh
 add-requires-in-Asserted-clause-fresh c = fresh_at_end c.requires.loose
@@ -46,4 +50,6 @@ pub returns-in_ok-id-in-Asserted-clause-closes : goal.returns-in_ok-id-in-Assert
 unfolding places_named
 returns-in_ok-id-in-Asserted-clause-closes c =
     let e = c.in_ok-id-in-Asserted.ensures in
-    rw c.in-Asserted.is (closes_node c.args.draft.now c.add-in-Asserted.new.self _ (asserted c.in-Asserted.ahead c.in-Asserted.positive) e.grows e.refs refl refl e.groups (λ n. refl) c.requires.loose)
+    rw c.in-Asserted.is (closes_node c.args.draft.now c.add-in-Asserted.new.self _
+    (asserted c.in-Asserted.ahead c.in-Asserted.positive) e.grows e.refs refl refl e.groups (λ n. refl)
+    c.requires.loose)

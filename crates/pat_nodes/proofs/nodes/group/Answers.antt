@@ -10,9 +10,11 @@ use Rattle.pat_nodes.proofs.nodes.group.Goals as goal
 use Rattle.pat_nodes.proofs.nodes.group.Goals.{In_ok-push}
 
 stands : (c : In_ok-push) → Stand c.alternative.new.draft.nodes c.push.new.self
-    (map (tree_at (trees c.args.draft.now.nodes)) c.args.level.branches ++ alternative (map (tree_at (trees c.args.draft.now.nodes)) c.args.level.parts) ∷ [])
+    (map (tree_at (trees c.args.draft.now.nodes)) c.args.level.branches ++ alternative
+    (map (tree_at (trees c.args.draft.now.nodes)) c.args.level.parts) ∷ [])
 stands c =
-    let before : Stand c.args.draft.now.nodes c.args.level.branches (map (tree_at (trees c.args.draft.now.nodes)) c.args.level.branches) =
+    let before : Stand c.args.draft.now.nodes c.args.level.branches
+    (map (tree_at (trees c.args.draft.now.nodes)) c.args.level.branches) =
     record { below = c.requires.branches; trees_are = refl } in
     rw c.in_ok-push.ensures.ok (stand_made c.in_ok-last.ensures.made before)
 
@@ -34,22 +36,29 @@ alternative-requires-clause-loose c = record {
 regroup : (front branches : List ℕ) (last : ℕ) → (front ++ branches) ++ last ∷ [] ≡ front ++ (branches ++ last ∷ [])
 regroup front branches last = append_assoc front branches (last ∷ [])
 
-after_last : (c : In_ok-push) (front : List ℕ) → loose c.args.draft.now.nodes ≡ front ++ (c.args.level.branches ++ c.args.level.parts) → loose c.alternative.new.draft.nodes ≡ front ++ c.push.new.self
+after_last : (c : In_ok-push) (front : List ℕ) → loose c.args.draft.now.nodes ≡ front
+    ++ (c.args.level.branches ++ c.args.level.parts) → loose c.alternative.new.draft.nodes ≡ front ++ c.push.new.self
 after_last c front e =
     rw c.in_ok-push.ensures.ok
-    (c.in_ok-last.ensures.loose (front ++ c.args.level.branches) (e ∙ sym (append_assoc front c.args.level.branches c.args.level.parts))
+    (c.in_ok-last.ensures.loose (front ++ c.args.level.branches)
+    (e ∙ sym (append_assoc front c.args.level.branches c.args.level.parts))
     ∙ regroup front c.args.level.branches c.in_ok-last.last)
 
 pub form_node-requires-clause-loose : goal.form_node-requires-clause-loose
 form_node-requires-clause-loose c =
     let front = c.requires.loose.front in
-    record { front = front; is = after_last (goal.at.form_node-requires-clause-loose c).In_ok-push front c.requires.loose.is }
+    record {
+      front = front;
+      is = after_last (goal.at.form_node-requires-clause-loose c).In_ok-push front c.requires.loose.is;
+    }
 
 pub returns-clause-loose : goal.returns-clause-loose
-returns-clause-loose c front e = c.in_ok-id.ensures.loose front (after_last (goal.at.returns-clause-loose c).In_ok-push front e)
+returns-clause-loose c front e = c.in_ok-id.ensures.loose front
+    (after_last (goal.at.returns-clause-loose c).In_ok-push front e)
 
 pub form_node-requires-clause-few : goal.form_node-requires-clause-few
-form_node-requires-clause-few c = rw (c.in_ok-push.ensures.ok, length-append c.args.level.branches (c.in_ok-last.last ∷ [])) c.requires.few
+form_node-requires-clause-few c =
+    rw (c.in_ok-push.ensures.ok, length-append c.args.level.branches (c.in_ok-last.last ∷ [])) c.requires.few
 
 pub returns-clause-closes : goal.returns-clause-closes
 returns-clause-closes c = closes_then c.in_ok-last.ensures.adds c.in_ok-id.ensures.closes
@@ -57,4 +66,5 @@ returns-clause-closes c = closes_then c.in_ok-last.ensures.adds c.in_ok-id.ensur
 pub form_node-requires-clause-test : goal.form_node-requires-clause-test
 form_node-requires-clause-test c =
     let s = stands (goal.at.form_node-requires-clause-test c).In_ok-push in
-    rw s.trees_are (has_push (form_of c.args.form) (map (tree_at (trees c.args.draft.now.nodes)) c.args.level.branches) _ c.requires.test)
+    rw s.trees_are (has_push (form_of c.args.form)
+    (map (tree_at (trees c.args.draft.now.nodes)) c.args.level.branches) _ c.requires.test)

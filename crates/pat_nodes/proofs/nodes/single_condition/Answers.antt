@@ -11,11 +11,15 @@ use Rattle.pat_nodes.proofs.nodes.single_condition.Goals as goal
 
 pub add-requires-clause-kids : goal.add-requires-clause-kids
 add-requires-clause-kids c =
-    rw (c.cond_of.ensures, tests_none c.args.test) (subst (λ ks. All (λ k. k < length c.args.draft.now.nodes) ks) (one_get c.args.branches c.get.result.now c.requires.few c.get.ensures) c.requires.branches)
+    rw (c.cond_of.ensures, tests_none c.args.test)
+    (subst (λ ks. All (λ k. k < length c.args.draft.now.nodes) ks)
+    (one_get c.args.branches c.get.result.now c.requires.few c.get.ensures) c.requires.branches)
 
 pub add-requires-clause-fresh : goal.add-requires-clause-fresh
 add-requires-clause-fresh c =
-    rw (c.cond_of.ensures, tests_none c.args.test) (subst (λ ks. is_fresh (loose c.args.draft.now.nodes) ks ≡ true) (one_get c.args.branches c.get.result.now c.requires.few c.get.ensures) (fresh_at_end c.requires.loose))
+    rw (c.cond_of.ensures, tests_none c.args.test)
+    (subst (λ ks. is_fresh (loose c.args.draft.now.nodes) ks ≡ true)
+    (one_get c.args.branches c.get.result.now c.requires.few c.get.ensures) (fresh_at_end c.requires.loose))
 
 pub add-requires-clause-define : goal.add-requires-clause-define
 add-requires-clause-define c = rw c.cond_of.ensures (defines_none c.args.test (None))
@@ -24,15 +28,20 @@ pub add-requires-clause-test : goal.add-requires-clause-test
 add-requires-clause-test c = rw (c.cond_of.ensures, tests_none c.args.test) (All-nil _)
 
 pub returns-clause-made : goal.returns-clause-made
-returns-clause-made c = rw (one_get c.args.branches c.get.result.now c.requires.few c.get.ensures) (rw (c.cond_of.ensures, cond_same (trees c.args.draft.now.nodes) c.args.test) at c.in_ok-id.ensures.made)
+returns-clause-made c = rw (one_get c.args.branches c.get.result.now c.requires.few c.get.ensures)
+    (rw (c.cond_of.ensures, cond_same (trees c.args.draft.now.nodes) c.args.test) at c.in_ok-id.ensures.made)
 
 pub returns-clause-loose : goal.returns-clause-loose
 returns-clause-loose c front e =
-    (rw (c.cond_of.ensures, tests_none c.args.test) at c.in_ok-id.ensures.replaces) front (e ∙ ap (λ ks. front ++ ks) (one_get c.args.branches c.get.result.now c.requires.few c.get.ensures))
+    (rw (c.cond_of.ensures, tests_none c.args.test) at c.in_ok-id.ensures.replaces) front
+    (e ∙ ap (λ ks. front ++ ks) (one_get c.args.branches c.get.result.now c.requires.few c.get.ensures))
 
 pub returns-clause-closes : goal.returns-clause-closes
 unfolding places_named
 returns-clause-closes c =
     let e = rw c.cond_of.ensures at c.in_ok-id.ensures in
-    closes_node c.args.draft.now c.add.new.self _ (conditional (test_of c.args.test)) e.grows e.refs (rw (named_same c.args.test) (sym (append-nil (map (λ k. (c.args.at, k)) (groups_in (test_of c.args.test)))))) (rw (named_same c.args.test) refl) e.groups (λ n. refl)
-    (rw (tests_none c.args.test) (subst (EndsIn c.args.draft.now.nodes) (one_get c.args.branches c.get.result.now c.requires.few c.get.ensures) c.requires.loose))
+    closes_node c.args.draft.now c.add.new.self _ (conditional (test_of c.args.test)) e.grows e.refs
+    (rw (named_same c.args.test) (sym (append-nil (map (λ k. (c.args.at, k)) (groups_in (test_of c.args.test))))))
+    (rw (named_same c.args.test) refl) e.groups (λ n. refl)
+    (rw (tests_none c.args.test) (subst (EndsIn c.args.draft.now.nodes)
+    (one_get c.args.branches c.get.result.now c.requires.few c.get.ensures) c.requires.loose))

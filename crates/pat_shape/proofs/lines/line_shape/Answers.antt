@@ -10,6 +10,7 @@ returns-in-Some c =
     let matching = c.args.matching.now in
     let b = c.in-Some.bound in
     lines_told c.args.tree.now matching c.args.most b (rw c.in-Some.is at c.in_ok-bound.ensures)
-    (subst (λ (o : Options). at b.steps (c.args.most + 1) ≤ lower_of o.match_limit matching.match_limit) c.options.ensures
+    (subst (λ (o : Options). at b.steps (c.args.most + 1) ≤ lower_of o.match_limit matching.match_limit)
+    c.options.ensures
     (c.is_within.ensures.steps c.if-is_within.true))
     (c.is_within.ensures.units c.if-is_within.true) c.requires.whole c.shape_of.result c.shape_of.ensures

@@ -11,16 +11,19 @@ loop-b-preserved c =
     let tree = c.args.tree.now in
     let b = c.loop-b.b in
     let rs = c.loop-b.ranges.items in
-    let P : ℕ → Type 0 = λ k. (IsTrue c.args.lined → k ≢ 10) × (may_take tree.options.utf (class_has tree) c.args.item.now k ≡ true) in
+    let P : ℕ → Type 0 = λ k. (IsTrue c.args.lined → k ≢ 10)
+    × (may_take tree.options.utf (class_has tree) c.args.item.now k ≡ true) in
     elim c.if-is_wanted.branch [
       | then-is_wanted+in_ok-push w ↦
           subst (λ (v : Vec (ℕ × ℕ) Global). Holds P v.items (b + 1)) (sym w.ranges-is)
-          (subst (λ (l : List (ℕ × ℕ)). Holds P l (b + 1)) (sym w.in_ok-push.ensures.items) (holds_pushed P rs b c.loop-b.invariant))
+          (subst (λ (l : List (ℕ × ℕ)). Holds P l (b + 1)) (sym w.in_ok-push.ensures.items)
+          (holds_pushed P rs b c.loop-b.invariant))
       | else-is_wanted w ↦
           subst (λ (v : Vec (ℕ × ℕ) Global). Holds P v.items (b + 1)) (sym w.ranges-is)
           (holds_passed P rs b
           (λ p.
-          let may = subst (λ u. may_take u (class_has tree) c.args.item.now b ≡ true) (sym (ap (λ o. o.utf) c.options.ensures)) p.1 in
+          let may = subst (λ u. may_take u (class_has tree) c.args.item.now b ≡ true)
+          (sym (ap (λ o. o.utf) c.options.ensures)) p.1 in
           let wanted = c.is_wanted.ensures tree c.requires.table p.0 may in
           let passed = w.if-is_wanted.false in
           absurd cc)

@@ -6,4 +6,6 @@ use Rattle.pat_shape.proofs.Ranges.{Holds}
 use Rattle.pat_shape.proofs.pieces.byte_ranges.Given as goal
 
 abbrev pub invariant-loop-b : goal.invariant-loop-b
-invariant-loop-b l = Holds (λ b. (IsTrue l.lined → b ≢ 10) × (may_take l.tree.options.utf (class_has l.tree) l.item b ≡ true)) l.ranges.items l.b
+invariant-loop-b l =
+    Holds (λ b. (IsTrue l.lined → b ≢ 10) × (may_take l.tree.options.utf (class_has l.tree) l.item b ≡ true))
+    l.ranges.items l.b

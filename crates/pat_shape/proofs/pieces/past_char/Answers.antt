@@ -6,7 +6,8 @@ use Rattle.pat_shape.proofs.pieces.past_char.Goals as goal
 
 pub returns-then-c-lt128 : goal.returns-then-c-lt128
 returns-then-c-lt128 c has b high scalar e =
-    c.past_ascii.ensures b high (subst (λ any. may_take true has (Char c.args.c any) b ≡ true) c.if-not-caseless.false e)
+    c.past_ascii.ensures b high (subst (λ any. may_take true has (Char c.args.c any) b ≡ true) c.if-not-caseless.false
+    e)
 
 pub returns-else-c-lt128 : goal.returns-else-c-lt128
 returns-else-c-lt128 c has b high scalar e = past_all b high scalar

@@ -16,13 +16,16 @@ loop-i-preserved c =
     let inside = c.loop-i-test.true in
     let next : suc i ≡ i + 1 = omega arith in
     let items = c.in_ok-push-in-Some.ensures.items in
-    let all = are_next tree lined kids c.loop-i.subs.items i 0 c.in-Some.sub inside c.loop-i.invariant.are c.in-Some.ensures.is in
+    let all = are_next tree lined kids c.loop-i.subs.items i 0 c.in-Some.sub inside c.loop-i.invariant.are
+    c.in-Some.ensures.is in
     record {
       within = omega (arith, inside);
       same = c.take_shape.ensures.same ∙ c.loop-i.invariant.same;
       kept = c.take_shape.ensures.kept;
-      are = subst (λ (hs : List Hir). AreShapes tree lined (map (tree_at (trees tree.nodes)) (take (i + 1) kids)) (map meaning hs)) (sym items)
-          (subst (λ (n : ℕ). AreShapes tree lined (map (tree_at (trees tree.nodes)) (take n kids)) (map meaning (c.loop-i.subs.items ++ c.in-Some.sub ∷ []))) next all);
+      are = subst (λ (hs : List Hir). AreShapes tree lined (map (tree_at (trees tree.nodes)) (take (i + 1) kids))
+          (map meaning hs)) (sym items)
+          (subst (λ (n : ℕ). AreShapes tree lined (map (tree_at (trees tree.nodes)) (take n kids))
+          (map meaning (c.loop-i.subs.items ++ c.in-Some.sub ∷ []))) next all);
     }
 
 pub returns-clause-are : goal.returns-clause-are
@@ -30,4 +33,5 @@ returns-clause-are c =
     let tree = c.args.tree.now in
     let lined = c.args.lined in
     let whole = take_all c.loop-i.i c.args.kids.now c.loop-i-test.false in
-    subst (λ ks. AreShapes tree lined (map (tree_at (trees tree.nodes)) ks) (map meaning c.loop-i.subs.items)) whole c.loop-i.invariant.are
+    subst (λ ks. AreShapes tree lined (map (tree_at (trees tree.nodes)) ks) (map meaning c.loop-i.subs.items)) whole
+    c.loop-i.invariant.are

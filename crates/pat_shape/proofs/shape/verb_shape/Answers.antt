@@ -9,8 +9,10 @@ use Rattle.pat_shape.specs.IsShape.{GoesOn, IsShape}
 use Rattle.pat_shape.proofs.Kept.{verb_is, fail_is}
 use Rattle.pat_shape.proofs.shape.verb_shape.Goals as goal
 
-told : (parts : TreeParts) (lined : Bool) (v v' : Verb) → v ≡ v' → GoesOn v' → IsShape parts lined (nested.verb v) (meaning Empty)
-told parts lined v v' e h = subst (λ w. IsShape parts lined (nested.verb w) (meaning Empty)) (sym e) (verb_is parts lined v' h)
+told : (parts : TreeParts) (lined : Bool) (v v' : Verb) → v ≡ v' → GoesOn v'
+    → IsShape parts lined (nested.verb v) (meaning Empty)
+told parts lined v v' e h = subst (λ w. IsShape parts lined (nested.verb w) (meaning Empty)) (sym e)
+    (verb_is parts lined v' h)
 
 pub returns-in-Fail : goal.returns-in-Fail
 returns-in-Fail c =

@@ -19,5 +19,6 @@ loop-i-preserved c =
     let later : refs (drop (i - 1) ps) ≡ refs_of p ++ refs (drop i ps) =
     refs_drop ps (i - 1) p within c.index-nodes-i.is ∙ ap (λ k. refs_of p ++ refs (drop k ps)) back in (
       omega (arith, c.loop-i.invariant.0),
-      c.with_place-leftmost.ensures ∙ rw (later, c.names_groups.ensures, c.loop-i.invariant.1) (sym (bad_at (marked c.args.groups.now) p.at (named_by p.node) (refs (drop i ps)))),
+      c.with_place-leftmost.ensures ∙ rw (later, c.names_groups.ensures, c.loop-i.invariant.1)
+          (sym (bad_at (marked c.args.groups.now) p.at (named_by p.node) (refs (drop i ps)))),
     )

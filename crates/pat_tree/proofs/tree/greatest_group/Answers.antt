@@ -16,5 +16,14 @@ loop-i-preserved c =
     let p = c.index-nodes-i.result in
     let within : i - 1 < length ps = omega (arith, c.loop-i.invariant.0, c.loop-i-test.true) in
     let back : (i - 1) + 1 ≡ i = omega (arith, c.loop-i-test.true) in
-    let more = rw (back, ← c.loop-i.invariant.1) at (numbers_drop ps (i - 1) p within c.index-nodes-i.is) in
-    (omega (arith, c.loop-i.invariant.0), omega (arith, more, c.max-most.ensures ∙ max_is c.loop-i.most c.number_of.result, c.number_of.ensures, ap (λ q. greatest (numbers_of q.node)) c.index-nodes-i.is))
+    let more = rw (back, ← c.loop-i.invariant.1) at (numbers_drop ps (i - 1) p within c.index-nodes-i.is) in (
+      omega (arith, c.loop-i.invariant.0),
+      omega (
+        arith,
+        more,
+        c.max-most.ensures
+            ∙ max_is c.loop-i.most c.number_of.result,
+        c.number_of.ensures,
+        ap (λ q. greatest (numbers_of q.node)) c.index-nodes-i.is,
+      ),
+    )

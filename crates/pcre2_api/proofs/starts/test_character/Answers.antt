@@ -3,7 +3,8 @@ use Rattle.std.specs.Prelude.{slice_index}
 use Rattle.match_drive.specs.frame_board.Standing.{is_inside}
 use Rattle.pcre2_api.proofs.Starting.{stands-inside, stands}
 use Rattle.pcre2_api.proofs.starts.test_character.Goals as goal
-use Rattle.pcre2_api.proofs.starts.test_character.Goals.{else-utf-via-then-utf+else-stands_inside, else-utf-via-else-utf}
+use Rattle.pcre2_api.proofs.starts.test_character.Goals.{else-utf-via-then-utf+else-stands_inside}
+use Rattle.pcre2_api.proofs.starts.test_character.Goals.{else-utf-via-else-utf}
 
 pub returns-then-stands_inside-clause-refused : goal.returns-then-stands_inside-clause-refused
 returns-then-stands_inside-clause-refused c =

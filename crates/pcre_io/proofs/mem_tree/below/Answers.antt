@@ -11,7 +11,8 @@ returns-in-Some c =
     let rest = c.in-Some.rest.now in
     let strips = c.in-Some.ensures.cases in
     let is : name ≡ d ++ rest = strips.1.1 ∙ ap (λ l. d ++ l) (sym strips.2) in
-    after-slash rest c.strip_prefix-in-Some.result (strip_prefix_char 47 rest c.strip_prefix-in-Some.result c.strip_prefix-in-Some.ensures.cases (lit< tt))
+    after-slash rest c.strip_prefix-in-Some.result
+    (strip_prefix_char 47 rest c.strip_prefix-in-Some.result c.strip_prefix-in-Some.ensures.cases (lit< tt))
     ∙ sym (below-append d rest) ∙ ap (below d) (sym is)
 
 pub returns-in-None : goal.returns-in-None

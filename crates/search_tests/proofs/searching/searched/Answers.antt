@@ -8,8 +8,10 @@ pub answer_of-answer-requires-clause-facts : goal.answer_of-answer-requires-clau
 answer_of-answer-requires-clause-facts c =
     let told = c.in_ok-facts.ensures in
     let t = c.in_ok-tree.tree in
-    let begins : IsByteSet c.in_ok-facts.facts.lead (lead_set_of t (fold_in t.options.utf)) = elim (cases_Bool t.options.utf) [
-      | inl on ↦ subst (λ utf. IsByteSet c.in_ok-facts.facts.lead (lead_set_of t (fold_in utf))) (sym on) (told.lead_in_utf on)
+    let begins : IsByteSet c.in_ok-facts.facts.lead (lead_set_of t (fold_in t.options.utf)) =
+    elim (cases_Bool t.options.utf) [
+      | inl on ↦ subst (λ utf. IsByteSet c.in_ok-facts.facts.lead (lead_set_of t (fold_in utf))) (sym on)
+          (told.lead_in_utf on)
       | inr off ↦ told.lead off (fold_in t.options.utf)
     ] in
     record {

@@ -16,4 +16,5 @@ returns-in-Ok-clause-names c = sym (ap names_in c.in-Ok.ensures.compiled.1)
 pub returns-in-Err-Bad-clause-pattern : goal.returns-in-Err-Bad-clause-pattern
 unfolding pattern
 returns-in-Err-Bad-clause-pattern c =
-    sym (ap accepted (subst (IsCompileError (compiled plain.PLAIN c.args.text.now)) c.in-Err-Bad.field-0-is c.in-Err-Bad.ensures.refused))
+    sym (ap accepted (subst (IsCompileError (compiled plain.PLAIN c.args.text.now)) c.in-Err-Bad.field-0-is
+    c.in-Err-Bad.ensures.refused))

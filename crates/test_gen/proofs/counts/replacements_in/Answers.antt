@@ -15,7 +15,8 @@ returns-in-Ok c = λ names named.
     let same = subst (λ (o : Option CodeParts). IsNamed o names) c.in-Some.is named in
     sym
     (ap (λ (o : Option CodeParts). replacements_in (pattern_in o) names c.args.replacement.now line) c.in-Some.is
-    ∙ sym (ap (λ (ns : List NameEntry). replaced_in (substituted (pattern_of code.tree) ns plain_match.PLAIN everywhere line 0 c.args.replacement.now)) same)
+    ∙ sym (ap (λ (ns : List NameEntry). replaced_in
+    (substituted (pattern_of code.tree) ns plain_match.PLAIN everywhere line 0 c.args.replacement.now)) same)
     ∙ ap replaced_in c.in-Ok.ensures.substituted))
 
 pub returns-in-Err : goal.returns-in-Err
@@ -25,6 +26,9 @@ returns-in-Err c = λ names named.
     let r = c.no_replacement.result in
     let text = c.args.replacement.now in
     let same = subst (λ (o : Option CodeParts). IsNamed o names) c.in-Some.is named in
-    subst (λ (o : Option CodeParts). IfOk r (λ count. count ≡ replacements_in (pattern_in o) names text line)) (sym c.in-Some.is)
-    (subst (λ (ns : List NameEntry). IfOk r (λ count. count ≡ replaced_in (substituted (pattern_of code.tree) ns plain_match.PLAIN everywhere line 0 text))) same
-    (replaced-none (substituted (pattern_of code.tree) code.tree.names plain_match.PLAIN everywhere line 0 text) c.in-Err.e r c.no_replacement.ensures.none c.no_replacement.ensures.told c.in-Err.ensures.refused)))
+    subst (λ (o : Option CodeParts). IfOk r (λ count. count ≡ replacements_in (pattern_in o) names text line))
+    (sym c.in-Some.is)
+    (subst (λ (ns : List NameEntry). IfOk r (λ count. count ≡ replaced_in
+    (substituted (pattern_of code.tree) ns plain_match.PLAIN everywhere line 0 text))) same
+    (replaced-none (substituted (pattern_of code.tree) code.tree.names plain_match.PLAIN everywhere line 0 text)
+    c.in-Err.e r c.no_replacement.ensures.none c.no_replacement.ensures.told c.in-Err.ensures.refused)))

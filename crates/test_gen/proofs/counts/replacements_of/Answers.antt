@@ -5,7 +5,8 @@ use Rattle.test_gen.proofs.counts.replacements_of.Goals as goal
 
 pub loop-line-init : goal.loop-line-init
 loop-line-init c = record {
-  sum = λ names named. summed-none (replacements_in (pattern_in c.args.code.now) names c.args.replacement.now) c.new-generator.result.x 0 c.new-generator.ensures refl;
+  sum = λ names named. summed-none (replacements_in (pattern_in c.args.code.now) names c.args.replacement.now)
+      c.new-generator.result.x 0 c.new-generator.ensures refl;
   within = omega arith;
 }
 
@@ -16,7 +17,9 @@ loop-line-preserved c =
     record {
       sum = λ names named.
           (let f = replacements_in (pattern_in c.args.code.now) names c.args.replacement.now in
-          summed-more f c.loop-line._line c.loop-line.generator.x c.loop-line.count c.next_line.new.self.x c.in_ok-count.field-0 c.in_ok-line.line.items (i.sum names named) c.in_ok-line.ensures.line c.in_ok-line.ensures.x
+          summed-more f c.loop-line._line c.loop-line.generator.x c.loop-line.count c.next_line.new.self.x
+          c.in_ok-count.field-0 c.in_ok-line.line.items (i.sum names named) c.in_ok-line.ensures.line
+          c.in_ok-line.ensures.x
           (c.in_ok-count.ensures names named ∙ ap f c.as_slice-line.ensures.value) few);
       within = omega (arith, i.within, few);
     }
@@ -24,4 +27,5 @@ loop-line-preserved c =
 pub returns : goal.returns
 returns c = λ names named.
     (let all : c.loop-line._line ≡ c.args.lines = omega arith in
-    (c.loop-line.invariant.sum names named).sum ∙ ap (replacements (pattern_in c.args.code.now) names c.args.replacement.now) all)
+    (c.loop-line.invariant.sum names named).sum
+    ∙ ap (replacements (pattern_in c.args.code.now) names c.args.replacement.now) all)

@@ -6,6 +6,7 @@ use Rattle.test_gen.proofs.counts.replacements_of.Given as goal
 
 abbrev pub invariant-loop-line : goal.invariant-loop-line
 invariant-loop-line l = record {
-  sum : (names : List NameEntry) → IsNamed l.code names → IsSummed (replacements_in (pattern_in l.code) names l.replacement) l._line l.generator.x l.count;
+  sum : (names : List NameEntry) → IsNamed l.code names
+      → IsSummed (replacements_in (pattern_in l.code) names l.replacement) l._line l.generator.x l.count;
   within : l.count ≤ 18446744073709551616 * l._line;
 }

@@ -11,5 +11,6 @@ returns-in_default g c = lacks (ends_text c.args.text.now c.args.lines) (g.O.Sin
 pub returns : goal.returns
 returns g c =
     writes-same
-    (ends-text c.in-Ok.count c.as_bytes.result.now (c.as_bytes.ensures.value ∙ c.format.ensures.text) ∙ ap (λ n. line (codes "dfa: " ++ decimal n ++ codes " ends")) c.in-Ok.ensures)
+    (ends-text c.in-Ok.count c.as_bytes.result.now (c.as_bytes.ensures.value ∙ c.format.ensures.text)
+    ∙ ap (λ n. line (codes "dfa: " ++ decimal n ++ codes " ends")) c.in-Ok.ensures)
     c.write_texts.ensures

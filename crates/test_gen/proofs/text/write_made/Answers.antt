@@ -4,4 +4,5 @@ use Rattle.test_gen.proofs.Saying.{made-text}
 use Rattle.test_gen.proofs.text.write_made.Goals as goal
 
 pub returns : goal.returns
-returns g c = writes-same (made-text c.args.lines c.as_bytes.result.now (c.as_bytes.ensures.value ∙ c.format.ensures.text)) c.write_texts.ensures
+returns g c = writes-same (made-text c.args.lines c.as_bytes.result.now
+    (c.as_bytes.ensures.value ∙ c.format.ensures.text)) c.write_texts.ensures

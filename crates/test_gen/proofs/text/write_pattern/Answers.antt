@@ -13,7 +13,10 @@ returns g c =
     let found = c.in-Ok.finds in
     let number = decimal c.args.number in
     writes-same
-    (finds-text c.args.number found.lines found.characters c.as_bytes.result.now c.as_bytes-2.result.now c.as_bytes-3.result.now
-    (c.as_bytes.ensures.value ∙ c.format.ensures.text) (c.as_bytes-2.ensures.value ∙ c.format-2.ensures.text) (c.as_bytes-3.ensures.value ∙ c.format-3.ensures.text)
-    ∙ (λ i. line (codes "pattern " ++ number ++ codes ": " ++ decimal (c.in-Ok.ensures.lines i) ++ codes " lines, " ++ decimal (c.in-Ok.ensures.characters i) ++ codes " characters")))
+    (finds-text c.args.number found.lines found.characters c.as_bytes.result.now c.as_bytes-2.result.now
+    c.as_bytes-3.result.now
+    (c.as_bytes.ensures.value ∙ c.format.ensures.text) (c.as_bytes-2.ensures.value ∙ c.format-2.ensures.text)
+    (c.as_bytes-3.ensures.value ∙ c.format-3.ensures.text)
+    ∙ (λ i. line (codes "pattern " ++ number ++ codes ": " ++ decimal (c.in-Ok.ensures.lines i) ++ codes " lines, "
+    ++ decimal (c.in-Ok.ensures.characters i) ++ codes " characters")))
     c.write_texts.ensures

@@ -26,7 +26,8 @@ returns-in_err-write_texts g c =
     let same : c.from_residual.result ≡ Err fault = search rules in
     let e : n - i ≡ suc (n - (i + 1)) = omega arith in
     subst (λ r. Writes (blanks n) (g.O.Sink.tells c.args.out.now) (g.O.Sink.tells c.write_texts.new.out) r) (sym same)
-    (left-refused (codes " ") (blanks (n - (i + 1))) fault c.loop-i.invariant (ap blanks e) c.in_err-write_texts.ensures)
+    (left-refused (codes " ") (blanks (n - (i + 1))) fault c.loop-i.invariant (ap blanks e)
+    c.in_err-write_texts.ensures)
 
 pub returns : goal.returns
 returns g c =

@@ -10,7 +10,8 @@ returns-in_err-write_blanks g c =
     let ys = codes "^" in
     let e = c.in_err-write_blanks.field-0.0 in
     let same : c.from_residual.result ≡ Err e = search rules in
-    subst (λ r. Writes (caret_part c.args.n) (g.O.Sink.tells c.args.out.now) (g.O.Sink.tells c.write_blanks.new.out) r) (sym same)
+    subst (λ r. Writes (caret_part c.args.n) (g.O.Sink.tells c.args.out.now) (g.O.Sink.tells c.write_blanks.new.out)
+    r) (sym same)
     (writes-first {A = Unit {0}} xs ys _ _ e (c.in_err-write_blanks.ensures))
 
 pub returns : goal.returns

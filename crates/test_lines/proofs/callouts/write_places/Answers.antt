@@ -10,7 +10,9 @@ returns-in_err-write_begin g c =
     let ys = marks_part c.args.calling.utf c.args.calling.pattern.now c.args.calling.subject.now c.args.block.now in
     let e = c.in_err-write_begin.field-0.0 in
     let same : c.from_residual.result ≡ Err e = search rules in
-    subst (λ r. Writes (begin_part c.args.block.now ++ marks_part c.args.calling.utf c.args.calling.pattern.now c.args.calling.subject.now c.args.block.now) (g.O.Sink.tells c.args.out.now) (g.O.Sink.tells c.write_begin.new.out) r) (sym same)
+    subst (λ r. Writes (begin_part c.args.block.now ++ marks_part c.args.calling.utf c.args.calling.pattern.now
+    c.args.calling.subject.now c.args.block.now) (g.O.Sink.tells c.args.out.now)
+    (g.O.Sink.tells c.write_begin.new.out) r) (sym same)
     (writes-first {A = Unit {0}} xs ys _ _ e (c.in_err-write_begin.ensures))
 
 pub returns : goal.returns

@@ -10,7 +10,9 @@ returns-in_err-write_string g c =
     let ys = subject_line c.args.calling.utf c.args.calling.pattern.now c.args.calling.subject.now in
     let e = c.in_err-write_string.field-0.0 in
     let same : c.from_residual.result ≡ Err e = search rules in
-    subst (λ r. Writes (string_line c.args.calling.utf c.args.calling.pattern.now c.args.calling.subject.now c.args.block.now ++ subject_line c.args.calling.utf c.args.calling.pattern.now c.args.calling.subject.now) (g.O.Sink.tells c.args.out.now) (g.O.Sink.tells c.write_string.new.out) r) (sym same)
+    subst (λ r. Writes (string_line c.args.calling.utf c.args.calling.pattern.now c.args.calling.subject.now
+    c.args.block.now ++ subject_line c.args.calling.utf c.args.calling.pattern.now c.args.calling.subject.now)
+    (g.O.Sink.tells c.args.out.now) (g.O.Sink.tells c.write_string.new.out) r) (sym same)
     (writes-first {A = Unit {0}} xs ys _ _ e (c.in_err-write_string.ensures))
 
 pub returns : goal.returns

@@ -12,9 +12,14 @@ loop-byte-preserved c =
     let i = c.loop-byte.byte-index in
     let had = c.loop-byte.invariant in
     let less = c.loop-byte-test.true in
-    let step = ap length (at_drop_more shown_bytes text i 0 less) ∙ length-append (shown_byte (get_or text i 0)) (shown_bytes (drop (i + 1) text)) in
+    let step = ap length (at_drop_more shown_bytes text i 0 less)
+    ∙ length-append (shown_byte (get_or text i 0)) (shown_bytes (drop (i + 1) text)) in
     let one = c.byte_columns-n.ensures in
-    record { count = omega (arith, had.count, step, one.value); most = omega (arith, had.most, one.most); there = omega (arith, less) }
+    record {
+      count = omega (arith, had.count, step, one.value);
+      most = omega (arith, had.most, one.most);
+      there = omega (arith, less);
+    }
 
 pub returns-clause-value : goal.returns-clause-value
 returns-clause-value c =

@@ -4,7 +4,8 @@ use Rattle.test_lines.proofs.Naming.{shown-name, hidden-name}
 use Rattle.test_lines.proofs.marks.name_of.Goals as goal
 
 pub returns-then-marks : goal.returns-then-marks
-returns-then-marks c = c.named.ensures ∙ shown-name (pattern_of c.args.code.now.tree) c.args.marks c.args.mark c.if-marks.true
+returns-then-marks c = c.named.ensures ∙ shown-name (pattern_of c.args.code.now.tree) c.args.marks c.args.mark
+    c.if-marks.true
 
 pub returns-else-marks : goal.returns-else-marks
 returns-else-marks c = hidden-name (pattern_of c.args.code.now.tree) c.args.marks c.args.mark c.if-marks.false

@@ -11,8 +11,10 @@ returns-in_err-write_texts g c =
     let b = shown c.args.utf c.args.name.now in
     let e = c.in_err-write_texts.field-0.0 in
     let same : c.from_residual.result ≡ Err e = search rules in
-    subst (λ r. Writes (name_line c.args.utf a c.args.name.now) (g.O.Sink.tells c.args.out.now) (g.O.Sink.tells c.write_texts.new.out) r) (sym same)
-    (writes-first {A = Unit {0}} (a ++ b) (10 ∷ []) _ _ e (writes-first a b _ _ e (writes-equal (append-nil a) c.in_err-write_texts.ensures)))
+    subst (λ r. Writes (name_line c.args.utf a c.args.name.now) (g.O.Sink.tells c.args.out.now)
+    (g.O.Sink.tells c.write_texts.new.out) r) (sym same)
+    (writes-first {A = Unit {0}} (a ++ b) (10 ∷ []) _ _ e
+    (writes-first a b _ _ e (writes-equal (append-nil a) c.in_err-write_texts.ensures)))
 
 pub returns-in_err-write_shown : goal.returns-in_err-write_shown
 returns-in_err-write_shown g c =
@@ -20,9 +22,11 @@ returns-in_err-write_shown g c =
     let b = shown c.args.utf c.args.name.now in
     let e = c.in_err-write_shown.field-0.0 in
     let same : c.from_residual-in_err-write_shown.result ≡ Err e = search rules in
-    subst (λ r. Writes (name_line c.args.utf a c.args.name.now) (g.O.Sink.tells c.args.out.now) (g.O.Sink.tells c.write_shown.new.out) r) (sym same)
+    subst (λ r. Writes (name_line c.args.utf a c.args.name.now) (g.O.Sink.tells c.args.out.now)
+    (g.O.Sink.tells c.write_shown.new.out) r) (sym same)
     (writes-first {A = Unit {0}} (a ++ b) (10 ∷ []) _ _ e
-    (writes-then a b _ _ _ _ (Err e) (writes-equal (append-nil a) c.in_ok-write_texts.ensures) c.in_err-write_shown.ensures))
+    (writes-then a b _ _ _ _ (Err e) (writes-equal (append-nil a) c.in_ok-write_texts.ensures)
+    c.in_err-write_shown.ensures))
 
 pub returns : goal.returns
 returns g c =

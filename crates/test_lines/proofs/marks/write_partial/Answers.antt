@@ -12,8 +12,10 @@ returns-in_err-write_partial_head g c =
     let b = name_line s.utf (codes ": ") c.args.text.now in
     let e = c.in_err-write_partial_head.field-0.0 in
     let same : c.from_residual.result ≡ Err e = search rules in
-    subst (λ r. Writes (partial_text s c.args.text.now c.args.mark) (g.O.Sink.tells c.args.out.now) (g.O.Sink.tells c.write_partial_head.new.out) r) (sym same)
-    (writes-first a b _ _ e (writes-equal (λ i. partial_head (c.options.ensures i).utf (c.name_of.ensures i)) c.in_err-write_partial_head.ensures))
+    subst (λ r. Writes (partial_text s c.args.text.now c.args.mark) (g.O.Sink.tells c.args.out.now)
+    (g.O.Sink.tells c.write_partial_head.new.out) r) (sym same)
+    (writes-first a b _ _ e (writes-equal (λ i. partial_head (c.options.ensures i).utf (c.name_of.ensures i))
+    c.in_err-write_partial_head.ensures))
 
 pub returns : goal.returns
 returns g c =
@@ -21,5 +23,6 @@ returns g c =
     let a = partial_head s.utf (name_of s c.args.mark) in
     let b = name_line s.utf (codes ": ") c.args.text.now in
     writes-then a b _ _ _ _ c.write_name.result
-    (writes-equal (λ i. partial_head (c.options.ensures i).utf (c.name_of.ensures i)) c.in_ok-write_partial_head.ensures)
+    (writes-equal (λ i. partial_head (c.options.ensures i).utf (c.name_of.ensures i))
+    c.in_ok-write_partial_head.ensures)
     (writes-equal (λ i. name_line (c.options.ensures i).utf (codes ": ") c.args.text.now) c.write_name.ensures)

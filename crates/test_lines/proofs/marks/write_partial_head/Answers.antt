@@ -19,7 +19,8 @@ returns-in_ok-write_texts-in-Some g c =
     let a = codes "Partial match, mark=" in
     let b = shown c.args.utf c.in-Some.name.now in
     rw c.in-Some.is
-    (writes-then a b _ _ _ _ c.write_shown.result (writes-equal (append-nil a) c.in_ok-write_texts-in-Some.ensures) c.write_shown.ensures)
+    (writes-then a b _ _ _ _ c.write_shown.result (writes-equal (append-nil a) c.in_ok-write_texts-in-Some.ensures)
+    c.write_shown.ensures)
 
 pub returns-in-None : goal.returns-in-None
 returns-in-None g c = rw c.in-None.is (writes-equal (append-nil (codes "Partial match")) c.write_texts-in-None.ensures)

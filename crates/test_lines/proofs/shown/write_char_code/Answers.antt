@@ -8,7 +8,8 @@ pub returns : goal.returns
 returns g c =
     let code = c.args.code in
     writes-same
-    (code-text code c.text_if.result.now c.text_if-2.result.now c.text_if-3.result.now c.text_if-4.result.now c.last_digit-5.result c.last_digit-6.result
+    (code-text code c.text_if.result.now c.text_if-2.result.now c.text_if-3.result.now c.text_if-4.result.now
+    c.last_digit-5.result c.last_digit-6.result
     (c.text_if.ensures ∙ ap (λ d. text_if (nat_lt 1048575 code) (d ∷ [])) c.last_digit.ensures)
     (c.text_if-2.ensures ∙ ap (λ d. text_if (nat_lt 65535 code) (d ∷ [])) c.last_digit-2.ensures)
     (c.text_if-3.ensures ∙ ap (λ d. text_if (nat_lt 4095 code) (d ∷ [])) c.last_digit-3.ensures)

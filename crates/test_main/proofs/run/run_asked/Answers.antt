@@ -5,7 +5,8 @@ use Rattle.tool_io.proofs.Taking.{hears-any}
 use Rattle.tool_io.specs.Printed.{printed}
 use Rattle.test_main.specs.declared.words.Script.TheVariants.{Standard, File, Generated}
 use Rattle.test_main.specs.Opens.{AreGiven}
-use Rattle.test_main.proofs.Running.{unless-any, standard-asked, given_of, stands-standard, stands-file, stands-generated, runs-script, runs-generated}
+use Rattle.test_main.proofs.Running.{unless-any, standard-asked, given_of, stands-standard, stands-file}
+use Rattle.test_main.proofs.Running.{stands-generated, runs-script, runs-generated}
 use Rattle.test_main.proofs.run.run_asked.Goals as goal
 
 pub returns-in-Standard-clause-runs : goal.returns-in-Standard-clause-runs
@@ -18,9 +19,14 @@ returns-in-Standard-clause-runs g c =
       (
         given_of targets.Input (Some r.0),
         stands-standard (g.F.FileSet.tells c.args.files.now).contents r.0 words is,
-        runs-script words Standard targets.Input (Some r.0) (printed (g.O.Sink.tells c.args.out.now) (g.E.Sink.tells c.args.err.now)) (printed (g.O.Sink.tells c.run_source.new.out) (g.E.Sink.tells c.run_source.new.err)) c.run_source.result is r.2,
-        absent-there (g.F.FileSet.tells c.args.files.now).contents (g.F.FileSet.tells c.args.files.now).faults (g.F.FileSet.tells c.args.files.now).faults targets.Input r.0,
-        unless-any c.run_source.result (AreGiven g.F.Src.Source.tells (g.F.FileSet.tells c.args.files.now).contents (given_of targets.Input (Some r.0))) (tt, tt),
+        runs-script words Standard targets.Input (Some r.0)
+            (printed (g.O.Sink.tells c.args.out.now) (g.E.Sink.tells c.args.err.now))
+            (printed (g.O.Sink.tells c.run_source.new.out) (g.E.Sink.tells c.run_source.new.err)) c.run_source.result
+            is r.2,
+        absent-there (g.F.FileSet.tells c.args.files.now).contents (g.F.FileSet.tells c.args.files.now).faults
+            (g.F.FileSet.tells c.args.files.now).faults targets.Input r.0,
+        unless-any c.run_source.result (AreGiven g.F.Src.Source.tells (g.F.FileSet.tells c.args.files.now).contents
+            (given_of targets.Input (Some r.0))) (tt, tt),
       ),
     )
 
@@ -36,7 +42,10 @@ returns-in-File-clause-runs g c =
       (
         given_of (targets.File path) r.0,
         stands-file (g.F.FileSet.tells c.args.files.now).contents any.0 words path r.0 is r.1,
-        runs-script words (File path) (targets.File path) r.0 (printed (g.O.Sink.tells c.args.out.now) (g.E.Sink.tells c.args.err.now)) (printed (g.O.Sink.tells c.run_file.new.out) (g.E.Sink.tells c.run_file.new.err)) c.run_file.result is r.2,
+        runs-script words (File path) (targets.File path) r.0
+            (printed (g.O.Sink.tells c.args.out.now) (g.E.Sink.tells c.args.err.now))
+            (printed (g.O.Sink.tells c.run_file.new.out) (g.E.Sink.tells c.run_file.new.err)) c.run_file.result is
+            r.2,
         r.3,
         r.4,
       ),
@@ -53,10 +62,14 @@ returns-in-Generated-clause-runs g c =
       (
         [],
         stands-generated (g.F.FileSet.tells c.args.files.now).contents any.0 words n is,
-        runs-generated words n (printed (g.O.Sink.tells c.args.out.now) (g.E.Sink.tells c.args.err.now)) (printed (g.O.Sink.tells c.run_generated.new.out) (g.E.Sink.tells c.args.err.now)) c.run_generated.result is
+        runs-generated words n (printed (g.O.Sink.tells c.args.out.now) (g.E.Sink.tells c.args.err.now))
+            (printed (g.O.Sink.tells c.run_generated.new.out) (g.E.Sink.tells c.args.err.now)) c.run_generated.result
+            is
             (c.run_generated.ensures (g.E.Sink.tells c.args.err.now)),
-        absent-none (g.F.FileSet.tells c.args.files.now).contents (g.F.FileSet.tells c.args.files.now).faults (g.F.FileSet.tells c.args.files.now).faults,
-        unless-any c.run_generated.result (AreGiven g.F.Src.Source.tells (g.F.FileSet.tells c.args.files.now).contents []) tt,
+        absent-none (g.F.FileSet.tells c.args.files.now).contents (g.F.FileSet.tells c.args.files.now).faults
+            (g.F.FileSet.tells c.args.files.now).faults,
+        unless-any c.run_generated.result (AreGiven g.F.Src.Source.tells (g.F.FileSet.tells c.args.files.now).contents
+            []) tt,
       ),
     )
 

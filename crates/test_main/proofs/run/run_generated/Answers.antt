@@ -11,8 +11,10 @@ returns-in_err-write_generated g c =
     let out_new = g.O.Sink.tells c.write_generated.new.out in
     let e = c.in_err-write_generated.field-0.0 in
     let same : c.from_residual.result ≡ Err e = search rules in
-    λ err. subst (RunsBy (generated_outcome c.args.lines) (printed out err) (printed out_new err)) (sym same) (generated-part c.args.lines out out_new err e c.in_err-write_generated.ensures)
+    λ err. subst (RunsBy (generated_outcome c.args.lines) (printed out err) (printed out_new err)) (sym same)
+    (generated-part c.args.lines out out_new err e c.in_err-write_generated.ensures)
 
 pub returns : goal.returns
 returns g c =
-    λ err. generated-whole c.args.lines (g.O.Sink.tells c.args.out.now) (g.O.Sink.tells c.write_generated.new.out) err _ c.in_ok-write_generated.ensures
+    λ err. generated-whole c.args.lines (g.O.Sink.tells c.args.out.now) (g.O.Sink.tells c.write_generated.new.out) err
+    _ c.in_ok-write_generated.ensures

@@ -21,7 +21,8 @@ returns-in_err-write_banner g c =
     let same : c.from_residual.result ≡ Err e = search rules in (
       any.0,
       any.1,
-      subst (RunsBy (script_text plan name any.0) (printed out err) (printed out_new err)) (sym same) (unbegun plan name (test_text plan any.0) out out_new err e c.in_err-write_banner.ensures),
+      subst (RunsBy (script_text plan name any.0) (printed out err) (printed out_new err)) (sym same)
+          (unbegun plan name (test_text plan any.0) out out_new err e c.in_err-write_banner.ensures),
     )
 
 pub returns-in-Ok : goal.returns-in-Ok
@@ -30,7 +31,9 @@ returns-in-Ok g c =
     let r = c.in-Ok.ensures in (
       r.heard,
       r.hears,
-      ran-whole plan c.args.name.now (test_text plan r.heard) (g.O.Sink.tells c.args.out.now) (g.O.Sink.tells c.write_banner.new.out) (g.O.Sink.tells c.run_script.new.out) _ c.in_ok-write_banner.ensures (g.E.Sink.tells c.args.err.now) r.runs,
+      ran-whole plan c.args.name.now (test_text plan r.heard) (g.O.Sink.tells c.args.out.now)
+          (g.O.Sink.tells c.write_banner.new.out) (g.O.Sink.tells c.run_script.new.out) _ c.in_ok-write_banner.ensures
+          (g.E.Sink.tells c.args.err.now) r.runs,
     )
 
 pub returns-in-Err-SinkFault : goal.returns-in-Err-SinkFault
@@ -40,8 +43,12 @@ returns-in-Err-SinkFault g c =
     let t = test_text plan r.heard in
     let mid = g.O.Sink.tells c.write_banner.new.out in
     let new = g.O.Sink.tells c.run_script.new.out in
-    let runs = subst (λ e. RunsTo t mid new (Err e)) c.in-Err-SinkFault.field-0-is r.runs in
-    (r.heard, r.hears, ran-unsent plan c.args.name.now t (g.O.Sink.tells c.args.out.now) mid new _ c.in_ok-write_banner.ensures (g.E.Sink.tells c.args.err.now) runs.0 runs.1)
+    let runs = subst (λ e. RunsTo t mid new (Err e)) c.in-Err-SinkFault.field-0-is r.runs in (
+      r.heard,
+      r.hears,
+      ran-unsent plan c.args.name.now t (g.O.Sink.tells c.args.out.now) mid new _
+          c.in_ok-write_banner.ensures (g.E.Sink.tells c.args.err.now) runs.0 runs.1,
+    )
 
 pub returns-in-Err-Memory : goal.returns-in-Err-Memory
 returns-in-Err-Memory g c =
@@ -50,8 +57,12 @@ returns-in-Err-Memory g c =
     let t = test_text plan r.heard in
     let mid = g.O.Sink.tells c.write_banner.new.out in
     let new = g.O.Sink.tells c.run_script.new.out in
-    let runs = subst (λ e. RunsTo t mid new (Err e)) c.in-Err-Memory.field-0-is r.runs in
-    (r.heard, r.hears, ran-lacks plan c.args.name.now t (g.O.Sink.tells c.args.out.now) mid new _ c.in_ok-write_banner.ensures (g.E.Sink.tells c.args.err.now) runs.0 runs.1)
+    let runs = subst (λ e. RunsTo t mid new (Err e)) c.in-Err-Memory.field-0-is r.runs in (
+      r.heard,
+      r.hears,
+      ran-lacks plan c.args.name.now t (g.O.Sink.tells c.args.out.now) mid new _
+          c.in_ok-write_banner.ensures (g.E.Sink.tells c.args.err.now) runs.0 runs.1,
+    )
 
 pub returns-in_ok-write_message-in-Err-ReadFault : goal.returns-in_ok-write_message-in-Err-ReadFault
 returns-in_ok-write_message-in-Err-ReadFault g c =
@@ -63,7 +74,9 @@ returns-in_ok-write_message-in-Err-ReadFault g c =
     let runs = subst (λ e. RunsTo t mid new (Err e)) c.in-Err-ReadFault.field-0-is r.runs in (
       r.heard,
       r.hears,
-      ran-told plan c.args.name.now t (g.O.Sink.tells c.args.out.now) mid new _ c.in_ok-write_banner.ensures (At Fault) refl runs (g.E.Sink.tells c.args.err.now) (g.E.Sink.tells c.write_message.new.err) _ c.in_ok-write_message-in-Err-ReadFault.ensures,
+      ran-told plan c.args.name.now t (g.O.Sink.tells c.args.out.now) mid new _ c.in_ok-write_banner.ensures
+          (At Fault) refl runs (g.E.Sink.tells c.args.err.now) (g.E.Sink.tells c.write_message.new.err) _
+          c.in_ok-write_message-in-Err-ReadFault.ensures,
     )
 
 pub returns-in_err-write_message-in-Err-ReadFault : goal.returns-in_err-write_message-in-Err-ReadFault
@@ -82,7 +95,8 @@ returns-in_err-write_message-in-Err-ReadFault g c =
       r.heard,
       r.hears,
       subst (RunsBy (script_text plan c.args.name.now r.heard) (printed out err) (printed new err_new)) (sym same)
-          (ran-untold plan c.args.name.now t out mid new _ c.in_ok-write_banner.ensures (At Fault) refl runs err err_new e c.in_err-write_message-in-Err-ReadFault.ensures),
+          (ran-untold plan c.args.name.now t out mid new _ c.in_ok-write_banner.ensures (At Fault) refl runs err
+          err_new e c.in_err-write_message-in-Err-ReadFault.ensures),
     )
 
 pub returns-in_ok-write_too_long-in-Err-TooLong : goal.returns-in_ok-write_too_long-in-Err-TooLong
@@ -95,7 +109,9 @@ returns-in_ok-write_too_long-in-Err-TooLong g c =
     let runs = subst (λ e. RunsTo t mid new (Err e)) c.in-Err-TooLong.field-0-is r.runs in (
       r.heard,
       r.hears,
-      ran-told plan c.args.name.now t (g.O.Sink.tells c.args.out.now) mid new _ c.in_ok-write_banner.ensures (Long c.in-Err-TooLong.line) refl runs (g.E.Sink.tells c.args.err.now) (g.E.Sink.tells c.write_too_long.new.err) _ c.in_ok-write_too_long-in-Err-TooLong.ensures,
+      ran-told plan c.args.name.now t (g.O.Sink.tells c.args.out.now) mid new _ c.in_ok-write_banner.ensures
+          (Long c.in-Err-TooLong.line) refl runs (g.E.Sink.tells c.args.err.now)
+          (g.E.Sink.tells c.write_too_long.new.err) _ c.in_ok-write_too_long-in-Err-TooLong.ensures,
     )
 
 pub returns-in_err-write_too_long-in-Err-TooLong : goal.returns-in_err-write_too_long-in-Err-TooLong
@@ -114,7 +130,8 @@ returns-in_err-write_too_long-in-Err-TooLong g c =
       r.heard,
       r.hears,
       subst (RunsBy (script_text plan c.args.name.now r.heard) (printed out err) (printed new err_new)) (sym same)
-          (ran-untold plan c.args.name.now t out mid new _ c.in_ok-write_banner.ensures (Long c.in-Err-TooLong.line) refl runs err err_new e c.in_err-write_too_long-in-Err-TooLong.ensures),
+          (ran-untold plan c.args.name.now t out mid new _ c.in_ok-write_banner.ensures (Long c.in-Err-TooLong.line)
+          refl runs err err_new e c.in_err-write_too_long-in-Err-TooLong.ensures),
     )
 
 pub returns-in_ok-write_message-in-Err-TooMuch : goal.returns-in_ok-write_message-in-Err-TooMuch
@@ -127,7 +144,9 @@ returns-in_ok-write_message-in-Err-TooMuch g c =
     let runs = subst (λ e. RunsTo t mid new (Err e)) c.in-Err-TooMuch.field-0-is r.runs in (
       r.heard,
       r.hears,
-      ran-told plan c.args.name.now t (g.O.Sink.tells c.args.out.now) mid new _ c.in_ok-write_banner.ensures (At Limit) refl runs (g.E.Sink.tells c.args.err.now) (g.E.Sink.tells c.write_message-in-Err-TooMuch.new.err) _ c.in_ok-write_message-in-Err-TooMuch.ensures,
+      ran-told plan c.args.name.now t (g.O.Sink.tells c.args.out.now) mid new _ c.in_ok-write_banner.ensures
+          (At Limit) refl runs (g.E.Sink.tells c.args.err.now) (g.E.Sink.tells c.write_message-in-Err-TooMuch.new.err)
+          _ c.in_ok-write_message-in-Err-TooMuch.ensures,
     )
 
 pub returns-in_err-write_message-in-Err-TooMuch : goal.returns-in_err-write_message-in-Err-TooMuch
@@ -146,5 +165,6 @@ returns-in_err-write_message-in-Err-TooMuch g c =
       r.heard,
       r.hears,
       subst (RunsBy (script_text plan c.args.name.now r.heard) (printed out err) (printed new err_new)) (sym same)
-          (ran-untold plan c.args.name.now t out mid new _ c.in_ok-write_banner.ensures (At Limit) refl runs err err_new e c.in_err-write_message-in-Err-TooMuch.ensures),
+          (ran-untold plan c.args.name.now t out mid new _ c.in_ok-write_banner.ensures (At Limit) refl runs err
+          err_new e c.in_err-write_message-in-Err-TooMuch.ensures),
     )

@@ -21,5 +21,16 @@ returns-in-Err-clause-text g c =
     let given = r.2.0 in
     let text = text_of (map string_bytes c.args.words.now) given in
     let old = printed (g.O.Sink.tells c.args.out.now) (g.E.Sink.tells c.args.err.now) in
-    let new = printed (g.O.Sink.tells c.run_words.new.out) (g.E.Sink.tells c.run_words.new.err) in
-    (r.0, r.1, (given, r.2.1, subst (λ s. Runs text s old new) (sym c.status_of.ensures) (runs-stopped text c.in-Err.e old new r.2.2), r.2.3, λ ran. unless-stopped c.in-Err.e (AreGiven g.F.Src.Source.tells (g.F.FileSet.tells c.args.files.now).contents given) r.2.4 (λ is. ran (c.status_of.ensures ∙ is))))
+    let new = printed (g.O.Sink.tells c.run_words.new.out) (g.E.Sink.tells c.run_words.new.err) in (
+      r.0,
+      r.1,
+      (
+        given,
+        r.2.1,
+        subst (λ s. Runs text s old new) (sym c.status_of.ensures)
+            (runs-stopped text c.in-Err.e old new r.2.2),
+        r.2.3,
+        λ ran. unless-stopped c.in-Err.e (AreGiven g.F.Src.Source.tells
+            (g.F.FileSet.tells c.args.files.now).contents given) r.2.4 (λ is. ran (c.status_of.ensures ∙ is)),
+      ),
+    )

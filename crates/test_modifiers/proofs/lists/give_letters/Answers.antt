@@ -18,7 +18,9 @@ loop-rest-preserved-then-begins_pair c =
 pub loop-rest-preserved : goal.loop-rest-preserved
 loop-rest-preserved c =
     let rest = c.loop-rest.rest.now in
-    ap (λ letters. letters_given c.args.pattern letters c.give_flag-else-begins_pair.new.modifiers) c.after-rest-else-begins_pair.ensures
+    ap (λ letters. letters_given c.args.pattern letters c.give_flag-else-begins_pair.new.modifiers)
+    c.after-rest-else-begins_pair.ensures
     ∙ ap (letters_given c.args.pattern (drop 1 rest)) c.give_flag-else-begins_pair.ensures
-    ∙ sym (letters_one c.args.pattern rest c.loop-rest.modifiers c.in-Some.flag (some_left (length rest) c.loop-rest-test.ensures) (sym c.if-begins_pair.ensures) (sym c.in-Some.ensures))
+    ∙ sym (letters_one c.args.pattern rest c.loop-rest.modifiers c.in-Some.flag
+    (some_left (length rest) c.loop-rest-test.ensures) (sym c.if-begins_pair.ensures) (sym c.in-Some.ensures))
     ∙ c.loop-rest.invariant

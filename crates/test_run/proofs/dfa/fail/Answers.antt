@@ -8,7 +8,9 @@ pub returns-in_err-write_unmatched-clause-wrote : goal.returns-in_err-write_unma
 returns-in_err-write_unmatched-clause-wrote g c =
     let e = c.in_err-write_unmatched.field-0.0 in
     let same : c.from_residual.result ≡ Err e = search rules in
-    subst (λ r. Writes (unmatched_text c.args.utf c.args.subject.now c.args.e) (g.O.Sink.tells c.args.out.now) (g.O.Sink.tells c.write_unmatched.new.out) r) (sym same) (refused-as {A = Unit {0}} e c.in_err-write_unmatched.ensures)
+    subst (λ r. Writes (unmatched_text c.args.utf c.args.subject.now c.args.e) (g.O.Sink.tells c.args.out.now)
+    (g.O.Sink.tells c.write_unmatched.new.out) r) (sym same)
+    (refused-as {A = Unit {0}} e c.in_err-write_unmatched.ensures)
 
 pub returns-clause-wrote : goal.returns-clause-wrote
 returns-clause-wrote g c = writes-as {A = Unit {0}} _ _ c.in_ok-write_unmatched.ensures

@@ -14,7 +14,9 @@ returns-in-Memory-clause-wrote g c = rw c.in-Memory.is (lacks-first [] _)
 
 pub returns-in_default-clause-wrote : goal.returns-in_default-clause-wrote
 returns-in_default-clause-wrote g c =
-    let told = error-failed c.args.utf c.args.subject.now c.args.e c.in_default.not-Memory c.in_default.not-NoMatch in writes-equal told.0 c.fail.ensures.wrote
+    let told = error-failed c.args.utf c.args.subject.now c.args.e c.in_default.not-Memory c.in_default.not-NoMatch in
+    writes-equal told.0 c.fail.ensures.wrote
 
 pub returns-in_default-clause-comes : goal.returns-in_default-clause-comes
-returns-in_default-clause-comes g c = told-failure c.args.e c.in_default.not-Memory c.in_default.not-NoMatch c.fail.result c.fail.ensures.comes
+returns-in_default-clause-comes g c = told-failure c.args.e c.in_default.not-Memory c.in_default.not-NoMatch
+    c.fail.result c.fail.ensures.comes

@@ -29,7 +29,8 @@ returns-in_err-write_one g c =
     let n = c.loop-n.n in
     let e = c.in_err-write_one.field-0.0 in
     let same : c.from_residual.result ≡ Err e = search rules in
-    subst (λ r. Writes (ends_text utf subject f.start 0 f.ends) (g.O.Sink.tells c.args.out.now) (g.O.Sink.tells c.write_one.new.out) r) (sym same)
+    subst (λ r. Writes (ends_text utf subject f.start 0 f.ends) (g.O.Sink.tells c.args.out.now)
+    (g.O.Sink.tells c.write_one.new.out) r) (sym same)
     (left-refused (end_line utf subject f.start n c.get.result.now)
     (ends_text utf subject f.start (n + 1) (drop (n + 1) f.ends)) e c.loop-n.invariant
     (ends-more utf subject f.start n n c.get.result.now f.ends c.get.ensures)

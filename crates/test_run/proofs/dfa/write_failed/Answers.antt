@@ -7,4 +7,5 @@ use Rattle.test_run.proofs.dfa.write_failed.Goals as goal
 pub returns : goal.returns
 returns g c =
     let fits : SFits w32 c.number.result = search rules in
-    writes-same (error-same (to_z-of_z w32 c.number.result fits ∙ c.number.ensures) c.text.ensures c.fault_place.ensures) c.write_error.ensures
+    writes-same (error-same (to_z-of_z w32 c.number.result fits ∙ c.number.ensures) c.text.ensures
+    c.fault_place.ensures) c.write_error.ensures

@@ -13,5 +13,6 @@ returns-in_err-search_at g c =
     let subject = c.args.subject.now in
     let e = c.in_err-search_at.field-0.0 in
     let same : c.from_residual.result ≡ Err e = search rules in
-    subst (λ r. Writes (first_text p how.matching subject how.start) (g.O.Sink.tells c.args.out.now) (g.O.Sink.tells c.search_at.new.out) r) (sym same)
+    subst (λ r. Writes (first_text p how.matching subject how.start) (g.O.Sink.tells c.args.out.now)
+    (g.O.Sink.tells c.search_at.new.out) r) (sym same)
     (first-refused p how.matching subject how.start _ _ e (refused-as e c.in_err-search_at.ensures.wrote))

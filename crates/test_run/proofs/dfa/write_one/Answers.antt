@@ -14,7 +14,8 @@ returns-in_err-write_count g c =
     let b = shown utf (slice_range subject c.args.start c.args.end) in
     let e = c.in_err-write_count.field-0.0 in
     let same : c.from_residual.result ≡ Err e = search rules in
-    subst (λ r. Writes (end_line utf subject c.args.start c.args.n c.args.end) (g.O.Sink.tells c.args.out.now) (g.O.Sink.tells c.write_count.new.out) r) (sym same)
+    subst (λ r. Writes (end_line utf subject c.args.start c.args.n c.args.end) (g.O.Sink.tells c.args.out.now)
+    (g.O.Sink.tells c.write_count.new.out) r) (sym same)
     (writes-first {A = Unit {0}} (a ++ b) (10 ∷ []) _ _ e (writes-first a b _ _ e c.in_err-write_count.ensures))
 
 pub returns-in_err-write_shown : goal.returns-in_err-write_shown
@@ -25,7 +26,8 @@ returns-in_err-write_shown g c =
     let b = shown utf (slice_range subject c.args.start c.args.end) in
     let e = c.in_err-write_shown.field-0.0 in
     let same : c.from_residual-in_err-write_shown.result ≡ Err e = search rules in
-    subst (λ r. Writes (end_line utf subject c.args.start c.args.n c.args.end) (g.O.Sink.tells c.args.out.now) (g.O.Sink.tells c.write_shown.new.out) r) (sym same)
+    subst (λ r. Writes (end_line utf subject c.args.start c.args.n c.args.end) (g.O.Sink.tells c.args.out.now)
+    (g.O.Sink.tells c.write_shown.new.out) r) (sym same)
     (writes-first {A = Unit {0}} (a ++ b) (10 ∷ []) _ _ e
     (writes-then a b _ _ _ _ (Err e) c.in_ok-write_count.ensures c.in_err-write_shown.ensures))
 

@@ -11,5 +11,7 @@ returns g c =
     let fits : SFits w32 c.args.number = search rules in
     writes-same
     (fault-text c.args.number c.args.at c.as_bytes.result.now c.as_bytes-2.result.now c.fault_text.result.now
-    (c.as_bytes.ensures.value ∙ c.format.ensures.text ∙ ap signed_decimal (to_z-of_z w32 c.args.number fits)) (c.as_bytes-2.ensures.value ∙ c.format-2.ensures.text) (c.fault_text.ensures ∙ ap fault_text (to_z-of_z w32 c.args.number fits)))
+    (c.as_bytes.ensures.value ∙ c.format.ensures.text ∙ ap signed_decimal (to_z-of_z w32 c.args.number fits))
+    (c.as_bytes-2.ensures.value ∙ c.format-2.ensures.text) (c.fault_text.ensures
+    ∙ ap fault_text (to_z-of_z w32 c.args.number fits)))
     c.write_texts.ensures

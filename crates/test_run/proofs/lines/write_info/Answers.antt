@@ -14,8 +14,10 @@ returns-in_err-write_groups g c =
     let empty = text_if info.can_be_empty (line (codes "May match empty string")) in
     let e = c.in_err-write_groups.field-0.0 in
     let same : c.from_residual.result ≡ Err e = search rules in
-    subst (λ r. Writes (info_text info) (g.O.Sink.tells c.args.out.now) (g.O.Sink.tells c.write_groups.new.out) r) (sym same)
-    (writes-first {A = Unit {0}} (groups ++ behind) empty _ _ e (writes-first groups behind _ _ e c.in_err-write_groups.ensures))
+    subst (λ r. Writes (info_text info) (g.O.Sink.tells c.args.out.now) (g.O.Sink.tells c.write_groups.new.out) r)
+    (sym same)
+    (writes-first {A = Unit {0}} (groups ++ behind) empty _ _ e
+    (writes-first groups behind _ _ e c.in_err-write_groups.ensures))
 
 pub returns-in_err-write_lookbehind : goal.returns-in_err-write_lookbehind
 returns-in_err-write_lookbehind g c =
@@ -25,8 +27,10 @@ returns-in_err-write_lookbehind g c =
     let empty = text_if info.can_be_empty (line (codes "May match empty string")) in
     let e = c.in_err-write_lookbehind.field-0.0 in
     let same : c.from_residual-in_err-write_lookbehind.result ≡ Err e = search rules in
-    subst (λ r. Writes (info_text info) (g.O.Sink.tells c.args.out.now) (g.O.Sink.tells c.write_lookbehind.new.out) r) (sym same)
-    (writes-first {A = Unit {0}} (groups ++ behind) empty _ _ e (writes-then groups behind _ _ _ _ (Err e) c.in_ok-write_groups.ensures c.in_err-write_lookbehind.ensures))
+    subst (λ r. Writes (info_text info) (g.O.Sink.tells c.args.out.now) (g.O.Sink.tells c.write_lookbehind.new.out) r)
+    (sym same)
+    (writes-first {A = Unit {0}} (groups ++ behind) empty _ _ e
+    (writes-then groups behind _ _ _ _ (Err e) c.in_ok-write_groups.ensures c.in_err-write_lookbehind.ensures))
 
 pub returns-in_err-write_texts : goal.returns-in_err-write_texts
 returns-in_err-write_texts g c =
@@ -36,7 +40,8 @@ returns-in_err-write_texts g c =
     let told = line (codes "May match empty string") in
     let e = c.in_err-write_texts.field-0.0 in
     let same : c.from_residual-in_err-write_texts.result ≡ Err e = search rules in
-    subst (λ r. Writes (info_text info) (g.O.Sink.tells c.args.out.now) (g.O.Sink.tells c.write_texts.new.out) r) (sym same)
+    subst (λ r. Writes (info_text info) (g.O.Sink.tells c.args.out.now) (g.O.Sink.tells c.write_texts.new.out) r)
+    (sym same)
     (writes-then (groups ++ behind) (text_if info.can_be_empty told) _ _ _ _ (Err e)
     (writes-then groups behind _ _ _ _ _ c.in_ok-write_groups.ensures c.in_ok-write_lookbehind.ensures)
     (writes-same (ap (λ t. text_if t told) (sym c.if-info.true)) c.in_err-write_texts.ensures))

@@ -10,7 +10,9 @@ returns-in_err-write_partial-clause-wrote g c =
     let s = showing (pattern_of c.args.code.now.tree) c.args.marks in
     let e = c.in_err-write_partial.field-0.0 in
     let same : c.from_residual.result ≡ Err e = search rules in
-    subst (λ r. Writes (partial_text s c.args.text.now c.args.mark) (g.O.Sink.tells c.args.out.now) (g.O.Sink.tells c.write_partial.new.out) r) (sym same) (refused-as {A = Unit {0}} e c.in_err-write_partial.ensures)
+    subst (λ r. Writes (partial_text s c.args.text.now c.args.mark) (g.O.Sink.tells c.args.out.now)
+    (g.O.Sink.tells c.write_partial.new.out) r) (sym same)
+    (refused-as {A = Unit {0}} e c.in_err-write_partial.ensures)
 
 pub returns-clause-wrote : goal.returns-clause-wrote
 returns-clause-wrote g c = writes-as {A = Unit {0}} _ _ c.in_ok-write_partial.ensures

@@ -13,5 +13,7 @@ pub returns-in_default-clause-wrote : goal.returns-in_default-clause-wrote
 returns-in_default-clause-wrote g c =
     let t = c.args.tested.now in
     writes-equal
-    (refused-is (calls_text t.code.tree.options.utf t.code.tree.verb_names t.pattern c.args.subject.now c.args.calls.now.replies c.args.calls.now.blocks.items) (showing (pattern_of t.code.tree) c.args.marks) c.args.subject.now c.args.e c.in_default.not-Memory)
+    (refused-is (calls_text t.code.tree.options.utf t.code.tree.verb_names t.pattern c.args.subject.now
+    c.args.calls.now.replies c.args.calls.now.blocks.items) (showing (pattern_of t.code.tree) c.args.marks)
+    c.args.subject.now c.args.e c.in_default.not-Memory)
     c.tell_shown.ensures.wrote

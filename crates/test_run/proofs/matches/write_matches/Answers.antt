@@ -15,4 +15,5 @@ returns-in-Err g c =
     let how = c.args.how.now in
     let subject = c.args.subject.now in
     let fault = only (setting p how.matching subject how.start) c.in-Err.e c.in-Err.ensures.refused in
-    writes-equal (unbegun-line (showing p how.marks) subject c.in-Err.e fault ∙ sym (searched-unbegun t.pattern p how subject c.in-Err.e c.in-Err.ensures.refused)) c.write_failed.ensures
+    writes-equal (unbegun-line (showing p how.marks) subject c.in-Err.e fault
+    ∙ sym (searched-unbegun t.pattern p how subject c.in-Err.e c.in-Err.ensures.refused)) c.write_failed.ensures

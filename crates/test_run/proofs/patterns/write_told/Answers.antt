@@ -9,4 +9,5 @@ use Rattle.test_run.proofs.patterns.write_told.Goals as goal
 pub returns : goal.returns
 returns g c =
     let told = info_text (info_in (pattern_of c.args.code.now.tree)) in
-    writes-same (ap info_text (c.info.ensures ∙ c.info_is_of_its_pattern.ensures) ∙ sym (ap (λ t. text_if t told) c.if-not-is_asked.false)) c.write_info.ensures
+    writes-same (ap info_text (c.info.ensures ∙ c.info_is_of_its_pattern.ensures)
+    ∙ sym (ap (λ t. text_if t told) c.if-not-is_asked.false)) c.write_info.ensures

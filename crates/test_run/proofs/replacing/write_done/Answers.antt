@@ -13,7 +13,8 @@ returns-in_err-write_count g c =
     let b = shown c.args.utf done.text in
     let e = c.in_err-write_count.field-0.0 in
     let same : c.from_residual.result ≡ Err e = search rules in
-    subst (λ r. Writes (done_line c.args.utf done) (g.O.Sink.tells c.args.out.now) (g.O.Sink.tells c.write_count.new.out) r) (sym same)
+    subst (λ r. Writes (done_line c.args.utf done) (g.O.Sink.tells c.args.out.now)
+    (g.O.Sink.tells c.write_count.new.out) r) (sym same)
     (writes-first {A = Unit {0}} (a ++ b) (10 ∷ []) _ _ e (writes-first a b _ _ e c.in_err-write_count.ensures))
 
 pub returns-in_err-write_shown : goal.returns-in_err-write_shown
@@ -23,9 +24,11 @@ returns-in_err-write_shown g c =
     let b = shown c.args.utf done.text in
     let e = c.in_err-write_shown.field-0.0 in
     let same : c.from_residual-in_err-write_shown.result ≡ Err e = search rules in
-    subst (λ r. Writes (done_line c.args.utf done) (g.O.Sink.tells c.args.out.now) (g.O.Sink.tells c.write_shown.new.out) r) (sym same)
+    subst (λ r. Writes (done_line c.args.utf done) (g.O.Sink.tells c.args.out.now)
+    (g.O.Sink.tells c.write_shown.new.out) r) (sym same)
     (writes-first {A = Unit {0}} (a ++ b) (10 ∷ []) _ _ e
-    (writes-then a b _ _ _ _ (Err e) c.in_ok-write_count.ensures (writes-same (ap (shown c.args.utf) c.bytes.ensures) c.in_err-write_shown.ensures)))
+    (writes-then a b _ _ _ _ (Err e) c.in_ok-write_count.ensures
+    (writes-same (ap (shown c.args.utf) c.bytes.ensures) c.in_err-write_shown.ensures)))
 
 pub returns : goal.returns
 returns g c =
@@ -33,5 +36,6 @@ returns g c =
     let a = number_before done.count in
     let b = shown c.args.utf done.text in
     writes-then (a ++ b) (10 ∷ []) _ _ _ _ c.write_texts.result
-    (writes-then a b _ _ _ _ _ c.in_ok-write_count.ensures (writes-same (ap (shown c.args.utf) c.bytes.ensures) c.in_ok-write_shown.ensures))
+    (writes-then a b _ _ _ _ _ c.in_ok-write_count.ensures
+    (writes-same (ap (shown c.args.utf) c.bytes.ensures) c.in_ok-write_shown.ensures))
     c.write_texts.ensures

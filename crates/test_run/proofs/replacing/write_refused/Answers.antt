@@ -7,4 +7,5 @@ pub returns-in-Memory : goal.returns-in-Memory
 returns-in-Memory g c = λ utf given refused. lacks-first (replaced_text utf given) _
 
 pub returns-in_default : goal.returns-in_default
-returns-in_default g c = λ utf given refused. writes-equal (text-refused utf given c.args.e c.in_default.not-Memory refused) c.write_unreplaced.ensures
+returns-in_default g c = λ utf given refused. writes-equal
+    (text-refused utf given c.args.e c.in_default.not-Memory refused) c.write_unreplaced.ensures

@@ -8,7 +8,8 @@ use Rattle.test_run.proofs.replacing.write_replaced.Goals as goal
 pub returns-in-Ok : goal.returns-in-Ok
 returns-in-Ok g c =
     let done = c.in-Ok.done in
-    writes-equal (ap (λ (o : Options). done_line o.utf done) c.options.ensures ∙ text-done c.args.code.now.tree.options.utf _ done c.in-Ok.ensures.substituted) c.write_done.ensures
+    writes-equal (ap (λ (o : Options). done_line o.utf done) c.options.ensures
+    ∙ text-done c.args.code.now.tree.options.utf _ done c.in-Ok.ensures.substituted) c.write_done.ensures
 
 pub returns-in-Err : goal.returns-in-Err
 returns-in-Err g c = c.write_refused.ensures _ _ c.in-Err.ensures.refused

@@ -18,7 +18,8 @@ returns-in_err-write_texts-clause-wrote g c =
     let later = entry_text (course_of run.course) (line_of run.reader l).0 in
     let e = c.in_err-write_texts.field-0.0 in
     let same : c.from_residual.result ≡ Err e = search rules in
-    subst (λ r. Writes (line l ++ later) (g.O.Sink.tells c.args.out.now) (g.O.Sink.tells c.write_texts.new.out) r) (sym same)
+    subst (λ r. Writes (line l ++ later) (g.O.Sink.tells c.args.out.now) (g.O.Sink.tells c.write_texts.new.out) r)
+    (sym same)
     (writes-first (line l) later _ _ e c.in_err-write_texts.ensures)
 
 pub returns-in_err-entry-clause-wrote : goal.returns-in_err-entry-clause-wrote
@@ -28,15 +29,18 @@ returns-in_err-entry-clause-wrote g c =
     let later = entry_text (course_of run.course) (line_of run.reader l).0 in
     let e = c.in_err-entry.field-0.0 in
     let same : c.from_residual-in_err-entry.result ≡ Err IoError.Memory = search rules in
-    subst (λ r. Writes (line l ++ later) (g.O.Sink.tells c.args.out.now) (g.O.Sink.tells c.write_texts.new.out) r) (sym same)
+    subst (λ r. Writes (line l ++ later) (g.O.Sink.tells c.args.out.now) (g.O.Sink.tells c.write_texts.new.out) r)
+    (sym same)
     (writes-lacks (line l) later _ _ _ c.in_ok-write_texts.ensures)
 
 pub take_entry-requires : goal.take_entry-requires
-take_entry-requires g c = subst IsShort (ap (λ x. x.0) c.in_ok-entry.ensures.entry) (line-short c.args.run.now.reader c.args.text.now)
+take_entry-requires g c = subst IsShort (ap (λ x. x.0) c.in_ok-entry.ensures.entry)
+    (line-short c.args.run.now.reader c.args.text.now)
 
 pub returns-clause-wrote : goal.returns-clause-wrote
 returns-clause-wrote g c =
     let run = c.args.run.now in
     let l = c.args.text.now in
     let is = ap (λ x. entry_text (course_of run.course) x.0) c.in_ok-entry.ensures.entry in
-    writes-then (line l) _ _ _ _ _ c.take_entry.result c.in_ok-write_texts.ensures (writes-same (sym is) c.take_entry.ensures.wrote)
+    writes-then (line l) _ _ _ _ _ c.take_entry.result c.in_ok-write_texts.ensures
+    (writes-same (sym is) c.take_entry.ensures.wrote)

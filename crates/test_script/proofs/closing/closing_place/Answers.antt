@@ -11,7 +11,8 @@ pub returns-then-line-at-clause-value : goal.returns-then-line-at-clause-value
 returns-then-line-at-clause-value c =
     let line = c.args.line.now in
     let at = c.loop-at.at in
-    sym (closed_at c.args.delimiter line at c.loop-at-test.true (eq-eqb (get_or line at 0) c.args.delimiter c.if-line-at.true)) ∙ c.loop-at.invariant
+    sym (closed_at c.args.delimiter line at c.loop-at-test.true
+    (eq-eqb (get_or line at 0) c.args.delimiter c.if-line-at.true)) ∙ c.loop-at.invariant
 
 pub loop-at-preserved : goal.loop-at-preserved
 loop-at-preserved c =
@@ -20,6 +21,10 @@ loop-at-preserved c =
     let d = c.args.delimiter in
     let other = ne_eqb (get_or line at 0) d c.if-line-at.false in
     elim c.if-line-at-eq92.branch [
-      | then-line-at-eq92 w ↦ rw w.at-is (closed_after_pair d line at (closing_place d line) c.loop-at-test.true other (eq-eqb (get_or line at 0) 92 w.if-line-at-eq92.true) c.loop-at.invariant)
-      | else-line-at-eq92 w ↦ rw w.at-is (closed_after_one d line at (closing_place d line) c.loop-at-test.true other (ne_eqb (get_or line at 0) 92 w.if-line-at-eq92.false) c.loop-at.invariant)
+      | then-line-at-eq92 w ↦
+          rw w.at-is (closed_after_pair d line at (closing_place d line) c.loop-at-test.true other
+          (eq-eqb (get_or line at 0) 92 w.if-line-at-eq92.true) c.loop-at.invariant)
+      | else-line-at-eq92 w ↦
+          rw w.at-is (closed_after_one d line at (closing_place d line) c.loop-at-test.true other
+          (ne_eqb (get_or line at 0) 92 w.if-line-at-eq92.false) c.loop-at.invariant)
     ]

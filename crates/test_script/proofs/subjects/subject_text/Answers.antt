@@ -9,7 +9,9 @@ returns-in-Ends-clause-value c =
     let text = c.args.text.now in
     let old = c.loop-turn.bytes.items in
     let ends = rw c.in-Ends.is at c.in_ok-to.ensures.value in
-    let whole = sym (next_turn (λ k. before old (written c.args.utf text k c.loop-turn.at)) (λ k. Some (c.push_piece.new.bytes.items, c.in-Ends.list)) (length text + 1) c.loop-turn.turn c.loop-turn-test.true ends) ∙ c.loop-turn.invariant.so_far in
+    let whole = sym (next_turn (λ k. before old (written c.args.utf text k c.loop-turn.at))
+    (λ k. Some (c.push_piece.new.bytes.items, c.in-Ends.list)) (length text + 1) c.loop-turn.turn
+    c.loop-turn-test.true ends) ∙ c.loop-turn.invariant.so_far in
     c.not_too_long.ensures.value ∙ ap unless_too_long whole
 
 pub returns-in-Stops-clause-value : goal.returns-in-Stops-clause-value
@@ -18,7 +20,9 @@ returns-in-Stops-clause-value c =
     let text = c.args.text.now in
     let old = c.loop-turn.bytes.items in
     let stops = rw c.in-Stops.is at c.in_ok-to.ensures.value in
-    sym (next_turn (λ k. unless_too_long (before old (written c.args.utf text k c.loop-turn.at))) (λ k. None) (length text + 1) c.loop-turn.turn c.loop-turn-test.true stops) ∙ ap unless_too_long c.loop-turn.invariant.so_far
+    sym (next_turn (λ k. unless_too_long (before old (written c.args.utf text k c.loop-turn.at))) (λ k. None)
+    (length text + 1) c.loop-turn.turn c.loop-turn-test.true stops)
+    ∙ ap unless_too_long c.loop-turn.invariant.so_far
 
 pub loop-turn-preserved : goal.loop-turn-preserved
 loop-turn-preserved c =
@@ -27,7 +31,9 @@ loop-turn-preserved c =
     let goes = rw c.in-Goes.is at c.in_ok-to.ensures.value in
     record {
       within = rw c.in-Goes.is at c.in_ok-to.ensures.place;
-      so_far = sym (next_turn (λ k. before old (written c.args.utf text k c.loop-turn.at)) (λ k. before c.push_piece.new.bytes.items (written c.args.utf text k c.in-Goes.to)) (length text + 1) c.loop-turn.turn c.loop-turn-test.true goes) ∙ c.loop-turn.invariant.so_far;
+      so_far = sym (next_turn (λ k. before old (written c.args.utf text k c.loop-turn.at))
+          (λ k. before c.push_piece.new.bytes.items (written c.args.utf text k c.in-Goes.to)) (length text + 1)
+          c.loop-turn.turn c.loop-turn-test.true goes) ∙ c.loop-turn.invariant.so_far;
     }
 
 pub returns-clause-value : goal.returns-clause-value
@@ -35,4 +41,6 @@ unfolding subject_text
 returns-clause-value c =
     let text = c.args.text.now in
     let old = c.loop-turn.bytes.items in
-    ap unless_too_long (sym (no_turn (λ k. before old (written c.args.utf text k c.loop-turn.at)) (length text + 1) c.loop-turn.turn c.loop-turn-test.false) ∙ c.loop-turn.invariant.so_far)
+    ap unless_too_long
+    (sym (no_turn (λ k. before old (written c.args.utf text k c.loop-turn.at)) (length text + 1) c.loop-turn.turn
+    c.loop-turn-test.false) ∙ c.loop-turn.invariant.so_far)

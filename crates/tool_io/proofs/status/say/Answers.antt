@@ -9,5 +9,6 @@ returns-in-Ok g c = λ out. said-all c.args.text.now c.args.status out _ _ c.in-
 
 pub returns-in-Err : goal.returns-in-Err
 returns-in-Err g c = λ out.
-    subst (λ status. Runs (said c.args.text.now c.args.status) status (printed out (g.E.Sink.tells c.args.err.now)) (printed out (g.E.Sink.tells c.write_texts.new.out))) (sym c.status_of.ensures)
+    subst (λ status. Runs (said c.args.text.now c.args.status) status (printed out (g.E.Sink.tells c.args.err.now))
+    (printed out (g.E.Sink.tells c.write_texts.new.out))) (sym c.status_of.ensures)
     (said-part c.args.text.now c.args.status out _ _ c.in-Err.e c.in-Err.ensures)

@@ -6,4 +6,5 @@ use Rattle.uni_text.proofs.names.find_name.Goals as goal
 
 pub returns : goal.returns
 returns c =
-    sym (c.loop-row.invariant ∙ ap (λ rows. named (map row_of rows) c.args.written.now) (drop_all c.loop-row.row-index c.args.rows.now c.loop-row-test.false))
+    sym (c.loop-row.invariant ∙ ap (λ rows. named (map row_of rows) c.args.written.now)
+    (drop_all c.loop-row.row-index c.args.rows.now c.loop-row-test.false))

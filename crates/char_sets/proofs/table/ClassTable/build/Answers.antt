@@ -16,10 +16,14 @@ loop-id-preserved c =
     record {
       count = ap length items ∙ length-append old (entry ∷ []) ∙ ap (λ n. n + 1) count;
       classes = below_more _ _
-          (λ k l x. ap (λ t. table_has t k x) items ∙ table_has-before old entry k x (omega arith) ∙ c.loop-id.invariant.classes k l x)
-          (λ x. ap (λ t. table_has t id x) items ∙ table_has-newest old entry id x count ∙ c.in_ok-entry.ensures x ∙ ap (λ utf. takes utf c.class.result.now x) (ap (λ (o : Options). o.utf) c.options.ensures) ∙ sym (class_has-found tree id x c.class.result.now c.class.ensures));
+          (λ k l x. ap (λ t. table_has t k x) items ∙ table_has-before old entry k x (omega arith)
+          ∙ c.loop-id.invariant.classes k l x)
+          (λ x. ap (λ t. table_has t id x) items ∙ table_has-newest old entry id x count ∙ c.in_ok-entry.ensures x
+          ∙ ap (λ utf. takes utf c.class.result.now x) (ap (λ (o : Options). o.utf) c.options.ensures)
+          ∙ sym (class_has-found tree id x c.class.result.now c.class.ensures));
     }
 
 pub returns : goal.returns
 returns c =
-    IsTableOf-whole c.args.tree.now c.loop-id.entries.items c.loop-id.id c.loop-id.invariant.count (omega (arith, c.loop-id-test.false, c.classes-id-end.ensures)) c.loop-id.invariant.classes
+    IsTableOf-whole c.args.tree.now c.loop-id.entries.items c.loop-id.id c.loop-id.invariant.count
+    (omega (arith, c.loop-id-test.false, c.classes-id-end.ensures)) c.loop-id.invariant.classes

@@ -6,4 +6,5 @@ use Rattle.grep_watch.proofs.filter.Filter.new.Goals as goal
 
 pub returns-in-Ok : goal.returns-in-Ok
 returns-in-Ok c = λ plan patterns sifts.
-    subst (λ (p : Program). IsWiderBy plan patterns (meaning p.hir) c.args.sieve.now.most c.args.sieve.now.utf) (sym c.in-Ok.ensures) sifts
+    subst (λ (p : Program). IsWiderBy plan patterns (meaning p.hir) c.args.sieve.now.most c.args.sieve.now.utf)
+    (sym c.in-Ok.ensures) sifts

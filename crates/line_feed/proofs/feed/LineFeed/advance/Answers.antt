@@ -14,7 +14,9 @@ returns-in-Ok-Whole-clause-moves g c =
       mid = mid;
       reads = told.0.reads;
       cuts = subst (λ f. Cuts mid f f.row) (sym is)
-          (cuts-next mid c.in-Ok-Whole.end c.in-Ok-Whole.newline told.1 (subst (λ f. f.offset ≤ 2 ^ 40) is c.give.ensures.limit) (subst (λ f. f.stored ≤ f.max + 65539) is c.give.ensures.stored));
+          (cuts-next mid c.in-Ok-Whole.end c.in-Ok-Whole.newline told.1
+          (subst (λ f. f.offset ≤ 2 ^ 40) is c.give.ensures.limit)
+          (subst (λ f. f.stored ≤ f.max + 65539) is c.give.ensures.stored));
       live = subst (λ f. f.phase ≢ Closed) (sym is) told.0.live;
     }
 
@@ -24,7 +26,8 @@ returns-then-is_done-clause-moves g c =
     let done = c.is_done.ensures.done.0 c.if-is_done.true in
     record {
       reads = record {
-        moves = Moves-none f (g.S.Source.tells c.args.source.now) (λ opened. absurd (let d : Open ≡ Ended = sym opened ∙ done.0 in cc));
+        moves = Moves-none f (g.S.Source.tells c.args.source.now)
+            (λ opened. absurd (let d : Open ≡ Ended = sym opened ∙ done.0 in cc));
         lazy = λ _. refl;
         stored = (let stored = c.is_done.ensures.stored in omega arith);
       };

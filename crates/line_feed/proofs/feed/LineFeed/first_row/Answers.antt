@@ -10,4 +10,6 @@ returns c =
     let len = c.first_end-end.result.len in
     let ends : EndsRow f at len = search rules in
     let max = ap (λ v. v.max) c.self.view_is in
-    run-row f at len c.args.most c.args.longest false (sound-view c.self.inside f c.self.invariant c.self.view_is c.requires.live) c.first_end-end.ensures.first ends (omega arith) (omega arith) (omega arith)
+    run-row f at len c.args.most c.args.longest false
+    (sound-view c.self.inside f c.self.invariant c.self.view_is c.requires.live) c.first_end-end.ensures.first
+    ends (omega arith) (omega arith) (omega arith)

@@ -7,7 +7,8 @@ use Rattle.line_feed.proofs.feed.LineFeed.gather.Goals as goal
 
 pub piece-init : goal.piece-init
 piece-init g c = record {
-  moves = Moves-none c.args.self.now (g.S.Source.tells c.args.source.now) (λ opened. let few = c.taken.ensures.few opened in let value = c.taken.ensures.value in omega arith);
+  moves = Moves-none c.args.self.now (g.S.Source.tells c.args.source.now)
+      (λ opened. let few = c.taken.ensures.few opened in let value = c.taken.ensures.value in omega arith);
   live = c.requires.live;
   lazy = λ _. (refl, refl);
 }
@@ -17,12 +18,14 @@ piece-preserved g c =
     let has = c.piece.invariant in
     let opened : c.look.new.self.phase ≡ Open = search rules in
     let part : IsLast c.look.new.self = c.in-Part.ensures.looks in
-    let moves = subst (λ f. Moves c.args.self.now f (g.S.Source.tells c.args.source.now) (g.S.Source.tells c.piece.source)) (sym c.look.ensures.same) has.moves in
+    let moves = subst (λ f. Moves c.args.self.now f (g.S.Source.tells c.args.source.now)
+    (g.S.Source.tells c.piece.source)) (sym c.look.ensures.same) has.moves in
     let fills = c.in-Ok.ensures in
     record {
       moves = Moves-trans _ _ _ _ _ _ moves opened fills.moves;
       live = fills.live;
-      lazy = λ h. absurd ((part.goes_on opened).none (subst (λ f. HoldsRow f.kind f.held) (sym (has.lazy h).0 ∙ sym c.look.ensures.same) h));
+      lazy = λ h. absurd ((part.goes_on opened).none
+          (subst (λ f. HoldsRow f.kind f.held) (sym (has.lazy h).0 ∙ sym c.look.ensures.same) h));
     }
 
 pub returns-in-Err : goal.returns-in-Err
@@ -30,7 +33,8 @@ returns-in-Err g c =
     let has = c.piece.invariant in
     let opened : c.look.new.self.phase ≡ Open = search rules in
     let part : IsLast c.look.new.self = c.in-Part.ensures.looks in
-    let moves = subst (λ f. Moves c.args.self.now f (g.S.Source.tells c.args.source.now) (g.S.Source.tells c.piece.source)) (sym c.look.ensures.same) has.moves in
+    let moves = subst (λ f. Moves c.args.self.now f (g.S.Source.tells c.args.source.now)
+    (g.S.Source.tells c.piece.source)) (sym c.look.ensures.same) has.moves in
     let waits = c.in-Err.ensures in (
       record {
         moves = Moves-trans _ _ _ _ _ _ moves opened waits.moves;
@@ -38,5 +42,6 @@ returns-in-Err g c =
         phase = waits.phase;
         stored = (let stored = waits.stored in omega arith);
       },
-      λ h. (part.goes_on opened).none (subst (λ f. HoldsRow f.kind f.held) (sym (has.lazy h).0 ∙ sym c.look.ensures.same) h),
+      λ h. (part.goes_on opened).none (subst (λ f. HoldsRow f.kind f.held)
+          (sym (has.lazy h).0 ∙ sym c.look.ensures.same) h),
     )

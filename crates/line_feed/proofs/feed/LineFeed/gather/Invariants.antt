@@ -9,7 +9,8 @@ abbrev pub invariant-piece : goal.invariant-piece
 invariant-piece g l = record {
   moves : Moves l.initial.self l.self (g.S.Source.tells l.initial.source) (g.S.Source.tells l.source);
   live : l.self.phase ≢ Closed;
-  lazy : HoldsRow l.initial.self.kind l.initial.self.held → (l.self ≡ l.initial.self) × (g.S.Source.tells l.source ≡ g.S.Source.tells l.initial.source);
+  lazy : HoldsRow l.initial.self.kind l.initial.self.held
+      → (l.self ≡ l.initial.self) × (g.S.Source.tells l.source ≡ g.S.Source.tells l.initial.source);
 }
 
 abbrev pub decreases-piece : goal.decreases-piece

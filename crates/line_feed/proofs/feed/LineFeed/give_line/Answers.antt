@@ -20,4 +20,5 @@ pub returns : goal.returns
 returns c =
     let first : FirstEnd c.args.self.now c.find_line_end-end.result.at c.find_line_end-end.result.len = search rules in
     let held = c.requires.holds in
-    gives-line c.args.self.now _ _ first (sound-view c.self.inside c.args.self.now c.self.invariant c.self.view_is c.requires.live) _ c.give.ensures.given held.0 held.1
+    gives-line c.args.self.now _ _ first (sound-view c.self.inside c.args.self.now c.self.invariant c.self.view_is
+    c.requires.live) _ c.give.ensures.given held.0 held.1

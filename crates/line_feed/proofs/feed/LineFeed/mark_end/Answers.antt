@@ -14,5 +14,6 @@ invariant_of-self c =
     let n : m ≡ c.min-self-inside.result = omega (arith, long, c.saturating_sub.ensures, c.min-self-inside.ensures) in
     let within : m ≤ length (held_of f) = omega (arith, long) in
     let none : IsSearched f.kind (held_of f) m =
-    subst (λ (v : Feed). IsSearched v.kind v.held (min at (length v.held - 2))) (sym c.self.view_is) (searched-end _ at c.args.end.now.len c.requires) in
+    subst (λ (v : Feed). IsSearched v.kind v.held (min at (length v.held - 2))) (sym c.self.view_is)
+    (searched-end _ at c.args.end.now.len c.requires) in
     subst (λ (k : ℕ). IsWhole (record f { searched = k })) n (whole-searched f m c.self.invariant within none)

@@ -9,7 +9,8 @@ pub invariant_of-self : goal.invariant_of-self
 invariant_of-self c =
     let f = c.self.inside in
     let long = held-long f c.self.invariant in
-    let n : length (held_of f) - 2 ≡ c.saturating_sub-self-inside.result = omega (arith, long, c.saturating_sub-self-inside.ensures) in
+    let n : length (held_of f) - 2 ≡ c.saturating_sub-self-inside.result =
+    omega (arith, long, c.saturating_sub-self-inside.ensures) in
     let within : length (held_of f) - 2 ≤ length (held_of f) = omega arith in
     let none = subst (λ v. HoldsRow v.kind v.held → ⊥) (sym c.self.view_is) c.requires in
     subst (λ (k : ℕ). IsWhole (record f { searched = k })) n

@@ -15,11 +15,13 @@ run-preserved c =
     let rest = length-drop c.in-Some.run'.bytes c.run.self.held in
     let left = ap (λ v. length v.held) is in
     record {
-      passes = Passes-run _ c.run.self c.skip.new.self c.args.within c.args.longest c.run.passed c.in-Some.run' has.passes here is;
+      passes = Passes-run _ c.run.self c.skip.new.self c.args.within c.args.longest c.run.passed c.in-Some.run'
+          has.passes here is;
       live = subst (λ g. g.phase ≢ Closed) (sym is) has.live;
       within = omega arith;
       held = omega arith;
     }
 
 pub returns-then-run : goal.returns-then-run
-returns-then-run c = Passes-run _ c.run.self c.skip.new.self c.args.within c.args.longest c.run.passed c.in-Some.run' c.run.invariant.passes c.in-Some.ensures c.skip.ensures
+returns-then-run c = Passes-run _ c.run.self c.skip.new.self c.args.within c.args.longest c.run.passed c.in-Some.run'
+    c.run.invariant.passes c.in-Some.ensures c.skip.ensures

@@ -17,12 +17,16 @@ returns c =
     let shorter = length-drop run.bytes f.held in
     let kind : f.kind ≡ Lf = search rules in
     let low : most ≤ c.args.within = search rules in
-    let count : c.count_byte.result ≡ count_by (λ b. eqb b 10) (slice_range f.held run.bytes c.min-room.result) = c.count_byte.ensures ∙ ap (λ l. count_by (λ b. eqb b 10) (slice_range l run.bytes c.min-room.result)) c.held-2.ensures in
-    let many : c.args.lines ≤ count_by (λ b. eqb b 10) (slice_range f.held run.bytes c.min-room.result) = let enough = c.if-count_byte-lines.false in omega arith in
+    let count : c.count_byte.result ≡ count_by (λ b. eqb b 10) (slice_range f.held run.bytes c.min-room.result) =
+    c.count_byte.ensures ∙ ap (λ l. count_by (λ b. eqb b 10) (slice_range l run.bytes c.min-room.result))
+    c.held-2.ensures in
+    let many : c.args.lines ≤ count_by (λ b. eqb b 10) (slice_range f.held run.bytes c.min-room.result) = let enough =
+    c.if-count_byte-lines.false in omega arith in
     let left : c.min-room.result ≡ min c.args.within f.max = omega arith in
     subst (λ g. LeavesLines f g c.args.within c.args.lines run.bytes) (sym c.skip.ensures)
     (record {
-      passes = Passes-more f (skipped f run.bytes run.rows) most c.args.within c.args.within c.args.within run.bytes low (omega arith) has.passes;
+      passes = Passes-more f (skipped f run.bytes run.rows) most c.args.within c.args.within c.args.within run.bytes
+          low (omega arith) has.passes;
       holds = record {
         kind = kind;
         held = omega arith;

@@ -18,9 +18,11 @@ returns-in-Took c = λ given.
     let x = c.args.self.now in
     let fits = c.requires.fits in
     let some = not_none x.first.now (sym c.is_empty.ensures ∙ c.if-is_empty.false) in
-    branches_tell x.ready.now.tree.now x.ready.now.classes.now x.view.now given x.first.now c.args.place (Took c.in-Took.to)
+    branches_tell x.ready.now.tree.now x.ready.now.classes.now x.view.now given x.first.now c.args.place
+    (Took c.in-Took.to)
     fits.table fits.options fits.branches some (fits.branches_free some) (sym c.in-Took.is ∙ c.test_branches.ensures)
-    (λ q e. ap (admitted (setting_for x.ready.now.tree.now x.view.now passed_over) c.args.place) (sym (same_place c.in-Took.to q e))
+    (λ q e. ap (admitted (setting_for x.ready.now.tree.now x.view.now passed_over) c.args.place)
+    (sym (same_place c.in-Took.to q e))
     ∙ sym c.is_admitted.ensures ∙ c.if-is_admitted.true)
 
 pub returns-in-Refused : goal.returns-in-Refused

@@ -37,4 +37,5 @@ returns-in-Some-clause-alone c utf =
 
 pub item_run-requires-clause-place : goal.item_run-requires-clause-place
 item_run-requires-clause-place c =
-    subst (λ (o : Options). IsTextPlace o c.args.self.now.view.now.subject.now c.args.place) (sym c.requires.fits.options) c.requires.place
+    subst (λ (o : Options). IsTextPlace o c.args.self.now.view.now.subject.now c.args.place)
+    (sym c.requires.fits.options) c.requires.place

@@ -5,4 +5,5 @@ use Rattle.match_drive.proofs.course.CourseDriven.lead.Goals as goal
 pub returns : goal.returns
 returns c =
     let ready = c.args.self.now.ready.now in
-    rw c.as_ref.ensures.value (lead_told ready.tree.now (fold_in ready.tree.now.options.utf) ready.facts.now.lead c.requires.facts.lead)
+    rw c.as_ref.ensures.value (lead_told ready.tree.now (fold_in ready.tree.now.options.utf) ready.facts.now.lead
+    c.requires.facts.lead)

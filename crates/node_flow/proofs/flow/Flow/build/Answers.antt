@@ -1,4 +1,5 @@
-use Rattle.std.proofs.Common.{◌≡◌, ℕ, ◌+◌, ◌<◌, ◌≤◌, ◌-◌, ◌⊎◌, inl, inr, subst, nat_eq, List, ◌++◌, take, drop, length, get_or, None, arith, ap, ◌∙◌, sym}
+use Rattle.std.proofs.Common.{◌≡◌, ℕ, ◌+◌, ◌<◌, ◌≤◌, ◌-◌, ◌⊎◌, inl, inr, subst, nat_eq, List, ◌++◌, take, drop}
+use Rattle.std.proofs.Common.{length, get_or, None, arith, ap, ◌∙◌, sym}
 use Rattle.std.proofs.lemmas.List.{get_or_default, length-replicate}
 use Rattle.std.proofs.Math.Seq.{take-append_seam}
 use Rattle.std.specs.List.{IsDistinct}
@@ -13,7 +14,8 @@ pub loop-id-init : goal.loop-id-init
 loop-id-init c = record {
   within = omega (arith, c.root.ensures);
   size = ap length c.in_ok-next.ensures ∙ length-replicate (c.root.result + 1) None ∙ ap (λ n. n + 1) c.root.ensures;
-  told = λ k h. start c.args.tree.now.nodes c.args.tree.now.root c.in_ok-next.next.items (c.root.result + 1) k (ap (λ n. n + 1) c.root.ensures) c.in_ok-next.ensures;
+  told = λ k h. start c.args.tree.now.nodes c.args.tree.now.root c.in_ok-next.next.items (c.root.result + 1) k
+      (ap (λ n. n + 1) c.root.ensures) c.in_ok-next.ensures;
   below = start_below c.args.tree.now.nodes c.args.tree.now.root (c.root.result + 1) (ap (λ n. n + 1) c.root.ensures);
   known = inl (ap (λ n. n + 1) c.root.ensures);
 }
@@ -25,9 +27,12 @@ link-requires-clause-untold c =
     let id = c.loop-id.id - 1 in
     let told = c.loop-id.next.items in
     let next : c.loop-id.id ≡ id + 1 = omega (arith, c.loop-id-test.true) in
-    let before : (k : ℕ) → k ≤ root → get_or told k None ≡ first_of (rest_among (id + 1) (drop (id + 1) (take (root + 1) nodes)) k) =
+    let before : (k : ℕ) → k ≤ root → get_or told k None ≡ first_of
+    (rest_among (id + 1) (drop (id + 1) (take (root + 1) nodes)) k) =
     λ k l. c.loop-id.invariant.told k l ∙ ap (λ i. first_of (rest_among i (drop i (take (root + 1) nodes)) k)) next in
-    rw c.deref_mut.ensures.value (untold nodes root id c.node.result.now told (omega (arith, c.loop-id.invariant.within)) c.node.ensures.here before c.node.ensures.once c.node.ensures.below)
+    rw c.deref_mut.ensures.value (untold nodes root id c.node.result.now told
+    (omega (arith, c.loop-id.invariant.within)) c.node.ensures.here before c.node.ensures.once
+    c.node.ensures.below)
 
 pub loop-id-preserved : goal.loop-id-preserved
 loop-id-preserved c =
@@ -38,12 +43,18 @@ loop-id-preserved c =
     let new = c.link.new.next in
     let next : c.loop-id.id ≡ id + 1 = omega (arith, c.loop-id-test.true) in
     let small : id ≤ root = omega (arith, c.loop-id.invariant.within) in
-    let before : (k : ℕ) → k ≤ root → get_or told k None ≡ first_of (rest_among (id + 1) (drop (id + 1) (take (root + 1) nodes)) k) =
+    let before : (k : ℕ) → k ≤ root → get_or told k None ≡ first_of
+    (rest_among (id + 1) (drop (id + 1) (take (root + 1) nodes)) k) =
     λ k l. c.loop-id.invariant.told k l ∙ ap (λ i. first_of (rest_among i (drop i (take (root + 1) nodes)) k)) next in
-    let here : c.index-after.result.now ≡ get_or told id None = c.index-after.ensures ∙ get_or_default told id c.index-after.result.now None (omega (arith, c.loop-id.invariant.size)) in
-    let linked : (rest : List ℕ) → first_of rest ≡ get_or told id None → (k : ℕ) → get_or new k None ≡ next_by told c.node.result.now rest k =
-    λ rest is k. c.link.ensures rest (is ∙ sym here) k ∙ ap (λ t. next_by t c.node.result.now rest k) c.deref_mut.ensures.value in
-    let written : take c.loop-id.next.len (new ++ drop (length new) told) ≡ new = (let full : c.loop-id.next.len ≡ length new = omega arith in ap (λ n. take n (new ++ drop (length new) told)) full ∙ take-append_seam new (drop (length new) told)) in
+    let here : c.index-after.result.now ≡ get_or told id None = c.index-after.ensures
+    ∙ get_or_default told id c.index-after.result.now None (omega (arith, c.loop-id.invariant.size)) in
+    let linked : (rest : List ℕ) → first_of rest ≡ get_or told id None → (k : ℕ)
+    → get_or new k None ≡ next_by told c.node.result.now rest k =
+    λ rest is k. c.link.ensures rest (is ∙ sym here) k
+    ∙ ap (λ t. next_by t c.node.result.now rest k) c.deref_mut.ensures.value in
+    let written : take c.loop-id.next.len (new ++ drop (length new) told) ≡ new =
+    (let full : c.loop-id.next.len ≡ length new = omega arith in
+    ap (λ n. take n (new ++ drop (length new) told)) full ∙ take-append_seam new (drop (length new) told)) in
     rw written record {
       within = omega (arith, c.loop-id.invariant.within);
       size = omega (arith, c.loop-id.invariant.size);
@@ -51,7 +62,8 @@ loop-id-preserved c =
       below = more_below nodes root id c.node.result.now small c.node.ensures.here c.node.ensures.below
           (subst (λ i. AreBelow i (drop i (take (root + 1) nodes))) next c.loop-id.invariant.below);
       known = inr (now_known nodes root id c.node.result.now c.node.ensures.here c.node.ensures.once
-          (subst (λ i. (i ≡ root + 1) ⊎ ((root < length nodes) × IsDistinct nat_eq (children nodes))) next c.loop-id.invariant.known));
+          (subst (λ i. (i ≡ root + 1) ⊎ ((root < length nodes) × IsDistinct nat_eq (children nodes))) next
+          c.loop-id.invariant.known));
     }
 
 pub returns-clause-flow : goal.returns-clause-flow
@@ -62,7 +74,8 @@ returns-clause-flow c =
     let done : c.loop-id.id ≡ 0 = omega (arith, c.loop-id-test.false) in
     record {
       count = c.loop-id.invariant.size;
-      each = λ k l. c.loop-id.invariant.told k l ∙ ap (λ i. first_of (rest_among i (drop i (take (root + 1) nodes)) k)) done;
+      each = λ k l. c.loop-id.invariant.told k l
+          ∙ ap (λ i. first_of (rest_among i (drop i (take (root + 1) nodes)) k)) done;
     }
 
 pub returns-clause-laws : goal.returns-clause-laws
@@ -70,7 +83,8 @@ returns-clause-laws c =
     let nodes = c.args.tree.now.nodes in
     let root = c.args.tree.now.root in
     let done : c.loop-id.id ≡ 0 = omega (arith, c.loop-id-test.false) in
-    let below : AreBelow 0 (take (root + 1) nodes) = subst (λ i. AreBelow i (drop i (take (root + 1) nodes))) done c.loop-id.invariant.below in
+    let below : AreBelow 0 (take (root + 1) nodes) = subst (λ i. AreBelow i (drop i (take (root + 1) nodes))) done
+    c.loop-id.invariant.below in
     elim c.loop-id.invariant.known [
       | inl none ↦ absurd (omega (arith, none, done))
       | inr both ↦ hang_together nodes root (record { short = both.0; below = below; once = both.1 })

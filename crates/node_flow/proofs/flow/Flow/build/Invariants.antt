@@ -10,7 +10,8 @@ abbrev pub invariant-loop-id : goal.invariant-loop-id
 invariant-loop-id l = record {
   within : l.id ≤ l.tree.root + 1;
   size : length l.next.items ≡ l.tree.root + 1;
-  told : (k : ℕ) → k ≤ l.tree.root → get_or l.next.items k None ≡ first_of (rest_among l.id (drop l.id (take (l.tree.root + 1) l.tree.nodes)) k);
+  told : (k : ℕ) → k ≤ l.tree.root → get_or l.next.items k None ≡ first_of
+      (rest_among l.id (drop l.id (take (l.tree.root + 1) l.tree.nodes)) k);
   below : AreBelow l.id (drop l.id (take (l.tree.root + 1) l.tree.nodes));
   -- once the root was seen
   known : (l.id ≡ l.tree.root + 1) ⊎ ((l.tree.root < length l.tree.nodes) × IsDistinct nat_eq (children l.tree.nodes));

@@ -15,8 +15,17 @@ returns-clause-means c =
     let e = c.in_ok-id.ensures in
     let t : Nested = callout_of 255 0 0 (c.in_ok-item.item.at, c.in_ok-item.item.len) in
     (automatic_means m c.requires.means r.0 r.1 c.in_ok-id.id t c.add.new.self _ c.push.new.self c.requires.idle r.2
-    (loud_due (known_of m) m.text.now (state_of m) r.0 r.1 r.2 m.calling r.3 ∙ ap (λ (i : ℕ × ℕ). Some (callout_of 255 0 0 i)) c.in_ok-item.ensures.value)
-    (record { is = e.grows; makes = e.made; replaces = e.replaces; no_group = λ n. refl; groups = e.groups; childless = refl; named = refl })
+    (loud_due (known_of m) m.text.now (state_of m) r.0 r.1 r.2 m.calling r.3
+    ∙ ap (λ (i : ℕ × ℕ). Some (callout_of 255 0 0 i)) c.in_ok-item.ensures.value)
+    (record {
+      is = e.grows;
+      makes = e.made;
+      replaces = e.replaces;
+      no_group = λ n. refl;
+      groups = e.groups;
+      childless = refl;
+      named = refl;
+    })
     refl c.in_ok-push.ensures.ok).0
 
 pub returns-clause-quiet : goal.returns-clause-quiet
@@ -27,6 +36,15 @@ returns-clause-quiet c =
     let e = c.in_ok-id.ensures in
     let t : Nested = callout_of 255 0 0 (c.in_ok-item.item.at, c.in_ok-item.item.len) in
     (automatic_means m c.requires.means r.0 r.1 c.in_ok-id.id t c.add.new.self _ c.push.new.self c.requires.idle r.2
-    (loud_due (known_of m) m.text.now (state_of m) r.0 r.1 r.2 m.calling r.3 ∙ ap (λ (i : ℕ × ℕ). Some (callout_of 255 0 0 i)) c.in_ok-item.ensures.value)
-    (record { is = e.grows; makes = e.made; replaces = e.replaces; no_group = λ n. refl; groups = e.groups; childless = refl; named = refl })
+    (loud_due (known_of m) m.text.now (state_of m) r.0 r.1 r.2 m.calling r.3
+    ∙ ap (λ (i : ℕ × ℕ). Some (callout_of 255 0 0 i)) c.in_ok-item.ensures.value)
+    (record {
+      is = e.grows;
+      makes = e.made;
+      replaces = e.replaces;
+      no_group = λ n. refl;
+      groups = e.groups;
+      childless = refl;
+      named = refl;
+    })
     refl c.in_ok-push.ensures.ok).1

@@ -13,6 +13,15 @@ returns c =
     let a = c.args.called in
     let e = c.in_ok-id.ensures in
     callout_means m ready.means (CalloutItem a.number a.text_from a.text_to) c.args.after c.in_ok-id.id
-    (callout_of a.number a.text_from a.text_to (c.args.item.at, c.args.item.len)) c.add.new.self _ c.push.new.self (Some c.args.item.at) ready
-    (record { is = e.grows; makes = e.made; replaces = e.replaces; no_group = λ n. refl; groups = e.groups; childless = refl; named = refl })
+    (callout_of a.number a.text_from a.text_to (c.args.item.at, c.args.item.len)) c.add.new.self _ c.push.new.self
+    (Some c.args.item.at) ready
+    (record {
+      is = e.grows;
+      makes = e.made;
+      replaces = e.replaces;
+      no_group = λ n. refl;
+      groups = e.groups;
+      childless = refl;
+      named = refl;
+    })
     refl c.in_ok-push.ensures.ok c.requires.ready.1

@@ -12,5 +12,14 @@ returns c =
     let ready = c.requires.1 in
     let e = c.in_ok-id.ensures in
     node_waits m ready.means c.requires.0 c.args.after m.at c.in_ok-id.id (call c.args.number) c.add.new.self _ ready
-    (record { is = e.grows; makes = e.made; replaces = e.replaces; no_group = λ n. refl; groups = e.groups; childless = refl; named = sym (append-nil (map (λ k. (m.at, k)) (beside_whole (c.args.number ∷ [])))) }) (record { many = λ low high lazy. refl })
+    (record {
+      is = e.grows;
+      makes = e.made;
+      replaces = e.replaces;
+      no_group = λ n. refl;
+      groups = e.groups;
+      childless = refl;
+      named = sym (append-nil (map (λ k. (m.at, k)) (beside_whole (c.args.number ∷ []))));
+    })
+    (record { many = λ low high lazy. refl })
     c.requires.2

@@ -14,8 +14,10 @@ returns-clause-bad c =
     let m = c.args.self.now in
     let a = c.args in
     let next = record (state_of m) { at = c.args.after } in
-    rw c.fault.ensures (bad_means m c.requires.means (CalloutItem a.number a.text_from a.text_to) c.args.after _ c.requires
-    (λ n h. ap (λ b. if b then Ok (with_callout a.number a.text_from a.text_to (next_item m.text.now next) next) else fault 195 m.at) c.if-self.false))
+    rw c.fault.ensures (bad_means m c.requires.means (CalloutItem a.number a.text_from a.text_to) c.args.after _
+    c.requires
+    (λ n h. ap (λ b. if b then Ok (with_callout a.number a.text_from a.text_to (next_item m.text.now next) next) else
+    fault 195 m.at) c.if-self.false))
 
 pub begin_callout-requires : goal.begin_callout-requires
 unfolding callouts
@@ -25,8 +27,10 @@ begin_callout-requires c =
     let next = record (state_of m) { at = c.args.after } in record {
       ready = (
         c.requires,
-        λ n h. ap (λ b. if b then Ok (with_callout a.number a.text_from a.text_to (next_item m.text.now next) next) else fault 195 m.at) c.if-self.true
-            ∙ ap (λ i. let x : Result Beginning Fault = Ok (with_callout a.number a.text_from a.text_to i next) in x) c.in_ok-item.ensures.value,
+        λ n h. ap (λ b. if b then Ok (with_callout a.number a.text_from a.text_to (next_item m.text.now next) next)
+            else fault 195 m.at) c.if-self.true
+            ∙ ap (λ i. let x : Result Beginning Fault = Ok (with_callout a.number a.text_from a.text_to i next) in x)
+            c.in_ok-item.ensures.value,
       );
       small = c.in_ok-item.ensures.within;
     }

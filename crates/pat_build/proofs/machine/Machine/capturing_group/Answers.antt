@@ -12,7 +12,9 @@ returns-then-len-ge-DEEPEST-clause-bad c =
     let ready = c.requires.ready in
     let deep : 250 ≤ length m.stack.items = omega (arith, c.len.ensures, c.if-len-ge-DEEPEST.true, m.stack.ok.0) in
     rw c.fault.ensures
-    (bad_means m ready.means (Open Capture) c.args.after _ ready (λ n h. capture_is (known_of m) m.text.now n (state_of m) (record (state_of m) { at = c.args.after }) c.requires.captures _ (captured_deep (state_of m) (record (state_of m) { at = c.args.after }) deep)))
+    (bad_means m ready.means (Open Capture) c.args.after _ ready
+    (λ n h. capture_is (known_of m) m.text.now n (state_of m) (record (state_of m) { at = c.args.after })
+    c.requires.captures _ (captured_deep (state_of m) (record (state_of m) { at = c.args.after }) deep)))
 
 pub returns-then-self-ge-GREATEST-clause-bad : goal.returns-then-self-ge-GREATEST-clause-bad
 returns-then-self-ge-GREATEST-clause-bad c =
@@ -20,10 +22,19 @@ returns-then-self-ge-GREATEST-clause-bad c =
     let ready = c.requires.ready in
     let fits : length m.stack.items < 250 = omega (arith, c.len.ensures, c.if-len-ge-DEEPEST.false, m.stack.ok.0) in
     rw c.fault-then-self-ge-GREATEST.ensures
-    (bad_means m ready.means (Open Capture) c.args.after _ ready (λ n h. capture_is (known_of m) m.text.now n (state_of m) (record (state_of m) { at = c.args.after }) c.requires.captures _ (captured_many (state_of m) (record (state_of m) { at = c.args.after }) fits c.if-self-ge-GREATEST.true)))
+    (bad_means m ready.means (Open Capture) c.args.after _ ready
+    (λ n h. capture_is (known_of m) m.text.now n (state_of m) (record (state_of m) { at = c.args.after })
+    c.requires.captures _ (captured_many (state_of m) (record (state_of m) { at = c.args.after }) fits
+    c.if-self-ge-GREATEST.true)))
 
 pub enter-requires-clause-ready : goal.enter-requires-clause-ready
 enter-requires-clause-ready c =
     let m = c.args.self.now in
     let fits : length m.stack.items < 250 = omega (arith, c.len.ensures, c.if-len-ge-DEEPEST.false, m.stack.ok.0) in
-    rw c.inside.ensures (Open Capture, c.requires.ready, λ n h. capture_is (known_of m) m.text.now n (state_of m) (record (state_of m) { at = c.args.after }) c.requires.captures _ (captured_fits (state_of m) (record (state_of m) { at = c.args.after }) fits c.if-self-ge-GREATEST.false))
+    rw c.inside.ensures (
+      Open Capture,
+      c.requires.ready,
+      λ n h. capture_is (known_of m) m.text.now n (state_of m) (record (state_of m) { at = c.args.after })
+          c.requires.captures _ (captured_fits (state_of m) (record (state_of m) { at = c.args.after }) fits
+          c.if-self-ge-GREATEST.false),
+    )

@@ -10,7 +10,8 @@ returns-in_err-spec-clause-bad c =
     let p = err_from_is_err_and c.from_residual.result c.from_residual.ensures.1 in
     let v = c.cursor-cursor.result in
     let is = c.cursor-cursor.ensures in
-    rw (p.1, p.2) (class_refuses m c.requires.means c.args.negated c.args.after v.text.now v.place v.options v.groups is.text is.place is.options is.groups c.in_err-spec.field-0.0 c.requires
+    rw (p.1, p.2) (class_refuses m c.requires.means c.args.negated c.args.after v.text.now v.place v.options v.groups
+    is.text is.place is.options is.groups c.in_err-spec.field-0.0 c.requires
     (λ n h. c.in_err-spec.ensures.bad (state_of m) n h))
 
 pub class-requires-clause-ready : goal.class-requires-clause-ready
@@ -22,6 +23,7 @@ class-requires-clause-ready c =
       c.args.after,
       c.requires,
       rw (is.place) at c.in_ok-spec.ensures.past,
-      class_begins m c.requires.means c.args.negated c.args.after v.text.now v.place v.options v.groups is.text is.place is.options is.groups c.in_ok-spec.spec c.in_ok-spec.end
+      class_begins m c.requires.means c.args.negated c.args.after v.text.now v.place v.options v.groups is.text
+          is.place is.options is.groups c.in_ok-spec.spec c.in_ok-spec.end
           (λ n h. c.in_ok-spec.ensures.class (state_of m) n h),
     )

@@ -15,17 +15,22 @@ pub returns-then-not-is_empty-clause-bad : goal.returns-then-not-is_empty-clause
 returns-then-not-is_empty-clause-bad c =
     let m = c.settle.new.self in
     let f = c.in_ok-settle.ensures in
-    let some : 0 < length m.stack.items = omega (arith, m.stack.ok.0, false-eqb (vec_len m.stack) 0 c.if-not-is_empty.ensures) in
+    let some : 0 < length m.stack.items =
+    omega (arith, m.stack.ok.0, false-eqb (vec_len m.stack) 0 c.if-not-is_empty.ensures) in
     let l = last_in m.stack.items some in
-    sym f.same.whole ∙ unclosed_means m f.means c.args.self.now.at l.last l.front f.idle f.quiet (f.there ∙ c.requires.token) l.is
+    sym f.same.whole ∙ unclosed_means m f.means c.args.self.now.at l.last l.front f.idle f.quiet
+    (f.there ∙ c.requires.token) l.is
 
 pub returns-clause-ok : goal.returns-clause-ok
 returns-clause-ok c =
     let m = c.settle.new.self in
     let f = c.in_ok-settle.ensures in
-    let none : length m.stack.items ≡ 0 = omega (arith, m.stack.ok.0, true-eqb (vec_len m.stack) 0 c.if-not-is_empty.ensures) in
-    let ends = whole_means m f.means c.args.self.now.at c.in_ok-id.id c.group.new.draft c.replace-level.new.dest f.idle f.quiet (f.there ∙ c.requires.token) (nothing_in m.stack.items none)
-    (rw (c.replace-level.ensures.value, c.plain.ensures) at c.in_ok-id.ensures.made) (closes_plain (rw c.plain.ensures at c.in_ok-id.ensures.closes)) in record {
+    let none : length m.stack.items ≡ 0 =
+    omega (arith, m.stack.ok.0, true-eqb (vec_len m.stack) 0 c.if-not-is_empty.ensures) in
+    let ends = whole_means m f.means c.args.self.now.at c.in_ok-id.id c.group.new.draft c.replace-level.new.dest
+    f.idle f.quiet (f.there ∙ c.requires.token) (nothing_in m.stack.items none)
+    (rw (c.replace-level.ensures.value, c.plain.ensures) at c.in_ok-id.ensures.made)
+    (closes_plain (rw c.plain.ensures at c.in_ok-id.ensures.closes)) in record {
       is = sym f.same.whole ∙ ends.is;
       groups = ends.groups;
       turns = ends.turns;
@@ -39,11 +44,14 @@ pub returns-clause-under : goal.returns-clause-under
 returns-clause-under c =
     let m = c.settle.new.self in
     let f = c.in_ok-settle.ensures in
-    let none : length m.stack.items ≡ 0 = omega (arith, m.stack.ok.0, true-eqb (vec_len m.stack) 0 c.if-not-is_empty.ensures) in
+    let none : length m.stack.items ≡ 0 =
+    omega (arith, m.stack.ok.0, true-eqb (vec_len m.stack) 0 c.if-not-is_empty.ensures) in
     let loose_is : loose m.draft.nodes ≡ m.level.branches ++ m.level.parts =
-    loose_idle m f.means f.idle ∙ ap (λ fs. ids_held fs ++ (ids_in m.level ++ [])) (nothing_in m.stack.items none) ∙ append-nil (ids_in m.level) in
+    loose_idle m f.means f.idle ∙ ap (λ fs. ids_held fs ++ (ids_in m.level ++ [])) (nothing_in m.stack.items none)
+    ∙ append-nil (ids_in m.level) in
     (rw c.replace-level.ensures.value at c.in_ok-id.ensures.loose) [] loose_is
 
 pub group-requires-clause-loose : goal.group-requires-clause-loose
 group-requires-clause-loose c =
-    rw c.replace-level.ensures.value (ends_level c.settle.new.self c.in_ok-settle.ensures.means c.in_ok-settle.ensures.idle)
+    rw c.replace-level.ensures.value (ends_level c.settle.new.self c.in_ok-settle.ensures.means
+    c.in_ok-settle.ensures.idle)

@@ -20,12 +20,14 @@ returns-in_err-none_beyond-clause-bad c known text st is =
     let tree = tree_at (trees m.draft.nodes) c.args.root in
     rw (p.1, p.2, bad.2)
     (tree_is known text st tree (state_of m) is
-    ∙ ap (λ (b : Option ℕ). checked st.options b (missing m.groups (references_of m.draft.nodes)) tree (state_of m)) bad.1)
+    ∙ ap (λ (b : Option ℕ). checked st.options b (missing m.groups (references_of m.draft.nodes)) tree (state_of m))
+    bad.1)
 
 pub finish-requires-clause-names : goal.finish-requires-clause-names
 finish-requires-clause-names c =
     let m = c.args.self.now in
-    rw c.replace-draft.ensures.value (names_stand m.draft.names m.draft.nodes m.groups c.requires.named c.requires.groups)
+    rw c.replace-draft.ensures.value (names_stand m.draft.names m.draft.nodes m.groups c.requires.named
+    c.requires.groups)
 
 pub returns-in-Ok-clause-ok : goal.returns-in-Ok-clause-ok
 returns-in-Ok-clause-ok c known text st options is =
@@ -35,10 +37,14 @@ returns-in-Ok-clause-ok c known text st options is =
     let parsed : Parsed = parsed_of (with_root m.draft c.args.root) in
     rw finished.0
     (tree_is known text st tree (state_of m) is
-    ∙ ap (λ (b : Option ℕ). checked st.options b (missing m.groups (references_of m.draft.nodes)) tree (state_of m)) c.in_ok-none_beyond.ensures.ok
-    ∙ ap (λ (o : Option ℕ). checked st.options None o tree (state_of m)) (missing_is m.draft.nodes m.groups None c.requires.groups c.requires.references finished.1)
+    ∙ ap (λ (b : Option ℕ). checked st.options b (missing m.groups (references_of m.draft.nodes)) tree (state_of m))
+    c.in_ok-none_beyond.ensures.ok
+    ∙ ap (λ (o : Option ℕ). checked st.options None o tree (state_of m))
+    (missing_is m.draft.nodes m.groups None c.requires.groups c.requires.references finished.1)
     ∙ ap (λ (o : Options). checked o None None tree (state_of m)) options
-    ∙ ap (λ (n : ℕ). let x : Result Parsed Fault = Ok (record parsed { pattern = record parsed.pattern { groups = n } }) in x) (sym (greatest_is m.draft.nodes m.groups c.requires.groups)))
+    ∙ ap (λ (n : ℕ). let x : Result Parsed Fault =
+    Ok (record parsed { pattern = record parsed.pattern { groups = n } }) in x)
+    (sym (greatest_is m.draft.nodes m.groups c.requires.groups)))
 
 pub returns-in-Ok-clause-under : goal.returns-in-Ok-clause-under
 returns-in-Ok-clause-under c =
@@ -56,5 +62,7 @@ returns-in-Err-clause-bad c known text st is =
     let finished = rw c.replace-draft.ensures.value at c.in-Err.ensures in
     let tree = tree_at (trees m.draft.nodes) c.args.root in
     tree_is known text st tree (state_of m) is
-    ∙ ap (λ (b : Option ℕ). checked st.options b (missing m.groups (references_of m.draft.nodes)) tree (state_of m)) c.in_ok-none_beyond.ensures.ok
-    ∙ ap (λ (o : Option ℕ). checked st.options None o tree (state_of m)) (missing_is m.draft.nodes m.groups (Some c.in-Err.bad.at) c.requires.groups c.requires.references finished)
+    ∙ ap (λ (b : Option ℕ). checked st.options b (missing m.groups (references_of m.draft.nodes)) tree (state_of m))
+    c.in_ok-none_beyond.ensures.ok
+    ∙ ap (λ (o : Option ℕ). checked st.options None o tree (state_of m))
+    (missing_is m.draft.nodes m.groups (Some c.in-Err.bad.at) c.requires.groups c.requires.references finished)

@@ -14,5 +14,15 @@ returns c =
     let ready = c.requires.1 in
     let e = c.in_ok-id.ensures in
     node_waits m ready.means c.requires.0 c.args.after m.at c.in_ok-id.id line_break c.add.new.self _ ready
-    (record { is = e.grows; makes = e.made; replaces = e.replaces; no_group = λ n. refl; groups = e.groups; childless = refl; named = refl }) (record { many = λ low high lazy. refl })
-    (λ n h. c.requires.2 n h ∙ ap (λ rs. Ok (atom line_break (record (state_of m) { at = c.args.after; references = rs }))) (sym (append-nil (references_of m.draft.nodes))))
+    (record {
+      is = e.grows;
+      makes = e.made;
+      replaces = e.replaces;
+      no_group = λ n. refl;
+      groups = e.groups;
+      childless = refl;
+      named = refl;
+    }) (record { many = λ low high lazy. refl })
+    (λ n h. c.requires.2 n h
+    ∙ ap (λ rs. Ok (atom line_break (record (state_of m) { at = c.args.after; references = rs })))
+    (sym (append-nil (references_of m.draft.nodes))))

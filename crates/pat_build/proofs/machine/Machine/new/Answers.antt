@@ -25,7 +25,8 @@ returns-clause-means c =
       pending = refl;
       barred = rw c.new-4.ensures.items refl;
       tested = tt;
-      value = rw c.new-4.ensures.items (begins (record { names = c.args.known.now; calling = c.args.calling }) c.args.text.now (state_from c.args.start c.args.options) n e);
+      value = rw c.new-4.ensures.items (begins (record { names = c.args.known.now; calling = c.args.calling })
+          c.args.text.now (state_from c.args.start c.args.options) n e);
       within = c.requires.within;
       short = c.requires.short;
       depth = rw c.new-4.ensures.items (omega arith);

@@ -15,7 +15,8 @@ nothing-requires c =
         idle = c.in-None.is;
         there = there;
         room = omega (arith, c.requires.room);
-        quiet = quiet_token (known_of m) m.text.now (state_of m) c.args.token c.args.after there.token_is m.calling (passed_no_item c.args.token _ _ c.requires.passed);
+        quiet = quiet_token (known_of m) m.text.now (state_of m) c.args.token c.args.after there.token_is m.calling
+            (passed_no_item c.args.token _ _ c.requires.passed);
       },
       λ n h. passed_begins (known_of m) m.text.now n (state_of m) c.args.token _ _ c.requires.passed,
     )

@@ -18,7 +18,8 @@ pub returns-in_default-clause-bad : goal.returns-in_default-clause-bad
 returns-in_default-clause-bad c =
     let m = c.args.self.now in
     let no = c.in_default in
-    let Out : Token → Type 0 = λ v. (n : ℕ) → beginning (known_of m) m.text.now n (state_of m) v (record (state_of m) { at = c.args.after }) ≡ fault 195 m.at in
+    let Out : Token → Type 0 = λ v. (n : ℕ) → beginning (known_of m) m.text.now n (state_of m) v
+    (record (state_of m) { at = c.args.after }) ≡ fault 195 m.at in
     let out : Out c.args.token = elim c.args.token as (λ v. c.args.token ≡ v → IsPlain v → IsMore v → Out v) [
       | token.End ↦ λ e p q. absurd q
       | token.Start item ↦ λ e p q. absurd (no.not-Start item e)
@@ -52,4 +53,5 @@ returns-in_default-clause-bad c =
       | token.Passed ↦ λ e p q. absurd p
       | _ ↦ λ e p q n. refl
     ] refl c.requires.plain c.requires.more in
-    rw c.fault-in_default.ensures (bad_means m c.requires.ready.means c.args.token c.args.after _ c.requires.ready (λ n h. out n))
+    rw c.fault-in_default.ensures (bad_means m c.requires.ready.means c.args.token c.args.after _ c.requires.ready
+    (λ n h. out n))

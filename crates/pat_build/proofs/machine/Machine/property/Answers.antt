@@ -12,7 +12,8 @@ returns-in_err-part-clause-bad c =
     let p = err_from_is_err_and c.from_residual.result c.from_residual.ensures.1 in
     let m = c.args.self.now in
     rw (p.1, p.2)
-    (bad_means m c.requires.means (Property c.args.from c.args.to c.args.not) c.args.after c.in_err-part.field-0.0 c.requires
+    (bad_means m c.requires.means (Property c.args.from c.args.to c.args.not) c.args.after c.in_err-part.field-0.0
+    c.requires
     (λ n h. rw (sym c.in_err-part.ensures) refl))
 
 pub class-requires-clause-ready : goal.class-requires-clause-ready
@@ -23,5 +24,6 @@ class-requires-clause-ready c =
       c.requires,
       omega arith,
       λ n h. rw (sym c.in_ok-part.ensures)
-          (ap (λ spec. let x : Result Beginning Fault = Ok (of_class spec (record (state_of m) { at = c.args.after })) in x) (sym c.in_ok-spec.ensures)),
+          (ap (λ spec. let x : Result Beginning Fault = Ok (of_class spec (record (state_of m) { at = c.args.after }))
+          in x) (sym c.in_ok-spec.ensures)),
     )

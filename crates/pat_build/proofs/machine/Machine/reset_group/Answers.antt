@@ -11,7 +11,8 @@ returns-then-len-ge-DEEPEST-clause-bad c =
     let m = c.args.self.now in
     let deep : 250 ≤ length m.stack.items = omega (arith, c.len.ensures, c.if-len-ge-DEEPEST.true, m.stack.ok.0) in
     rw c.fault.ensures
-    (bad_means m c.requires.means (Open BranchReset) c.args.after _ c.requires (λ n h. rw (reset_deep (state_of m) (record (state_of m) { at = c.args.after }) deep) refl))
+    (bad_means m c.requires.means (Open BranchReset) c.args.after _ c.requires
+    (λ n h. rw (reset_deep (state_of m) (record (state_of m) { at = c.args.after }) deep) refl))
 
 pub enter-requires-clause-ready : goal.enter-requires-clause-ready
 enter-requires-clause-ready c =

@@ -7,5 +7,6 @@ pub returns-clause-quiet : goal.returns-clause-quiet
 returns-clause-quiet c =
     let m = c.flush.new.self in
     let plain = c.requires.plain in
-    quiet_due (known_of m) m.text.now (state_of m) c.args.token plain.0 (c.in_ok-flush.ensures.there ∙ plain.1) m.calling
+    quiet_due (known_of m) m.text.now (state_of m) c.args.token plain.0 (c.in_ok-flush.ensures.there ∙ plain.1)
+    m.calling
     (sym c.is_due.ensures ∙ c.if-is_due.false)

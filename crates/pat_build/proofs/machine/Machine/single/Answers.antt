@@ -9,5 +9,7 @@ pub returns : goal.returns
 returns c =
     let m = c.args.self.now in
     let ready = c.requires.ready.1 in
-    atom_means m ready.means c.requires.ready.0 c.args.after c.args.after m.quoting (Single c.args.item m.at) m.draft ready (omega arith) ready.there.within
-    (extends_none m.draft ready.means.refs_are) (rw (c.requires.classless) (All-nil (λ n. n < length m.draft.classes))) c.requires.ready.2
+    atom_means m ready.means c.requires.ready.0 c.args.after c.args.after m.quoting (Single c.args.item m.at) m.draft
+    ready (omega arith) ready.there.within
+    (extends_none m.draft ready.means.refs_are)
+    (rw (c.requires.classless) (All-nil (λ n. n < length m.draft.classes))) c.requires.ready.2

@@ -23,7 +23,8 @@ returns-in_err-test-clause-bad c =
     let is = c.cursor-cursor.ensures in
     let fits : length m.stack.items < 250 = omega (arith, c.len.ensures, c.if-len-ge-DEEPEST.false, m.stack.ok.0) in
     rw (p.1, p.2)
-    (assertion_refuses m c.requires.means c.args.from c.args.to c.args.after v.text.now v.place v.options v.groups is.text is.place is.options is.groups c.requires fits c.in_err-test.field-0.0
+    (assertion_refuses m c.requires.means c.args.from c.args.to c.args.after v.text.now v.place v.options v.groups
+    is.text is.place is.options is.groups c.requires fits c.in_err-test.field-0.0
     (λ n h. c.in_err-test.ensures.bad (before_test (state_of m) (state_of m)) n h))
 
 pub returns-then-len-ge-DEEPEST-2-clause-bad : goal.returns-then-len-ge-DEEPEST-2-clause-bad
@@ -32,8 +33,10 @@ returns-then-len-ge-DEEPEST-2-clause-bad c =
     let v = c.cursor-cursor.result in
     let is = c.cursor-cursor.ensures in
     let fits : length m.stack.items < 250 = omega (arith, c.len.ensures, c.if-len-ge-DEEPEST.false, m.stack.ok.0) in
-    let deep : 250 ≤ length m.stack.items + 1 = omega (arith, c.len-2.ensures, c.if-len-ge-DEEPEST-2.true, m.stack.ok.0) in
-    assertion_deep m c.requires.means c.args.from c.args.to c.args.after v.text.now v.place v.options v.groups is.text is.place is.options is.groups c.requires fits c.in_ok-test.test
+    let deep : 250 ≤ length m.stack.items + 1 =
+    omega (arith, c.len-2.ensures, c.if-len-ge-DEEPEST-2.true, m.stack.ok.0) in
+    assertion_deep m c.requires.means c.args.from c.args.to c.args.after v.text.now v.place v.options v.groups is.text
+    is.place is.options is.groups c.requires fits c.in_ok-test.test
     (λ n h. c.in_ok-test.ensures.found (before_test (state_of m) (state_of m)) n h) deep
 
 pub enter_assertion-requires-clause-ready : goal.enter_assertion-requires-clause-ready
@@ -42,12 +45,14 @@ enter_assertion-requires-clause-ready c =
     let v = c.cursor-cursor.result in
     let is = c.cursor-cursor.ensures in
     let fits : length m.stack.items < 250 = omega (arith, c.len.ensures, c.if-len-ge-DEEPEST.false, m.stack.ok.0) in
-    let fit : length m.stack.items + 1 < 250 = omega (arith, c.len-2.ensures, c.if-len-ge-DEEPEST-2.false, m.stack.ok.0) in
+    let fit : length m.stack.items + 1 < 250 =
+    omega (arith, c.len-2.ensures, c.if-len-ge-DEEPEST-2.false, m.stack.ok.0) in
     let past : c.args.after ≤ c.in_ok-test.test.here.at = rw (is.place) at c.in_ok-test.ensures.past in (
       CondStart Lookaround c.args.from c.args.to,
       c.args.after,
       c.requires,
       omega (arith, past, c.in_ok-test.ensures.onward),
-      assertion_begins m c.requires.means c.args.from c.args.to c.args.after v.text.now v.place v.options v.groups is.text is.place is.options is.groups c.requires fits c.in_ok-test.test
+      assertion_begins m c.requires.means c.args.from c.args.to c.args.after v.text.now v.place v.options v.groups
+          is.text is.place is.options is.groups c.requires fits c.in_ok-test.test
           (λ n h. c.in_ok-test.ensures.found (before_test (state_of m) (state_of m)) n h) fit,
     )

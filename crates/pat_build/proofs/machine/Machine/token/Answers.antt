@@ -7,4 +7,6 @@ returns-in-Err-clause-bad c =
     let m = c.args.self.now in
     let v = c.cursor-cursor.result in
     let is = c.cursor-cursor.ensures in
-    rw c.from.ensures (fault_means m c.requires c.in-Err.fault (token_same m v.text.now v.place v.options v.groups is.text is.place is.options is.groups ∙ sym c.in-Err.ensures.value))
+    rw c.from.ensures (fault_means m c.requires c.in-Err.fault
+    (token_same m v.text.now v.place v.options v.groups is.text is.place is.options is.groups
+    ∙ sym c.in-Err.ensures.value))

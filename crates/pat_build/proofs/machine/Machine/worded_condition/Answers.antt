@@ -14,7 +14,10 @@ returns-then-len-ge-DEEPEST-clause-bad c =
     let deep : 250 ≤ length m.stack.items = omega (arith, c.len.ensures, c.if-len-ge-DEEPEST.true, m.stack.ok.0) in
     rw c.fault.ensures
     (bad_means m c.requires.ready.means (CondStart c.args.cond c.args.from c.args.to) c.args.after _ c.requires.ready
-    (λ n h. worded_is (known_of m) m.text.now n (state_of m) c.args.cond c.args.from c.args.to (record (state_of m) { at = c.args.after }) c.requires.worded ∙ conditions_deep (known_of m).names m.text.now (state_of m) c.args.cond word (record (state_of m) { at = c.args.after }) deep))
+    (λ n h. worded_is (known_of m) m.text.now n (state_of m) c.args.cond c.args.from c.args.to
+    (record (state_of m) { at = c.args.after }) c.requires.worded
+    ∙ conditions_deep (known_of m).names m.text.now (state_of m) c.args.cond word
+    (record (state_of m) { at = c.args.after }) deep))
 
 pub returns-in_err-form-clause-bad : goal.returns-in_err-form-clause-bad
 returns-in_err-form-clause-bad c =
@@ -23,8 +26,10 @@ returns-in_err-form-clause-bad c =
     let word = slice_range m.text.now c.args.from c.args.to in
     let fits : length m.stack.items < 250 = omega (arith, c.len.ensures, c.if-len-ge-DEEPEST.false, m.stack.ok.0) in
     rw (p.1, p.2)
-    (condition_refuses m c.requires.ready.means c.args.cond c.args.from c.args.to c.args.after c.in_err-form.field-0.0 c.requires.worded c.requires.ready
-    (conditions_refuse (known_of m).names m.text.now (state_of m) c.args.cond word (record (state_of m) { at = c.args.after }) fits c.in_err-form.field-0.0 c.in_err-form.ensures.bad))
+    (condition_refuses m c.requires.ready.means c.args.cond c.args.from c.args.to c.args.after c.in_err-form.field-0.0
+    c.requires.worded c.requires.ready
+    (conditions_refuse (known_of m).names m.text.now (state_of m) c.args.cond word
+    (record (state_of m) { at = c.args.after }) fits c.in_err-form.field-0.0 c.in_err-form.ensures.bad))
 
 pub enter-requires-clause-ready : goal.enter-requires-clause-ready
 enter-requires-clause-ready c =
@@ -34,8 +39,11 @@ enter-requires-clause-ready c =
     rw c.inside.ensures (
       CondStart c.args.cond c.args.from c.args.to,
       c.requires.ready,
-      λ n h. worded_is (known_of m) m.text.now n (state_of m) c.args.cond c.args.from c.args.to (record (state_of m) { at = c.args.after }) c.requires.worded
-          ∙ rw c.beyond_after-beyond.ensures (conditions_fit (known_of m).names m.text.now (state_of m) c.args.cond word (record (state_of m) { at = c.args.after }) fits (form_of c.in_ok-form.form) c.in_ok-form.ensures.ok),
+      λ n h. worded_is (known_of m) m.text.now n (state_of m) c.args.cond c.args.from c.args.to
+          (record (state_of m) { at = c.args.after }) c.requires.worded
+          ∙ rw c.beyond_after-beyond.ensures (conditions_fit (known_of m).names m.text.now (state_of m) c.args.cond
+          word (record (state_of m) { at = c.args.after }) fits (form_of c.in_ok-form.form)
+          c.in_ok-form.ensures.ok),
     )
 
 pub enter-requires-clause-numbered : goal.enter-requires-clause-numbered

@@ -1,4 +1,5 @@
-use Rattle.std.proofs.Common.{◌≡◌, ◌∙◌, ℕ, ◌+◌, ◌<◌, Bool, List, length, Result, Ok, Err, IfOk, IfErr, refl, sym, ap, arith}
+use Rattle.std.proofs.Common.{◌≡◌, ◌∙◌, ℕ, ◌+◌, ◌<◌, Bool, List, length, Result, Ok, Err, IfOk, IfErr, refl, sym, ap}
+use Rattle.std.proofs.Common.{arith}
 use Rattle.std.proofs.lemmas.Result.{err_from_is_err_and}
 use Rattle.token_parts.specs.declared.token.Token.{Token}
 use Rattle.token_parts.specs.declared.token.Token.TheVariants as token
@@ -10,7 +11,8 @@ use Rattle.pat_grammar.specs.Parts.{Assertion, look_by, automatic_lead, asserted
 use Rattle.pat_grammar.proofs.cursor.Cursor.assertion.Goals as goal
 
 -- another token
-no_callout : (calling : Bool) (text : List ℕ) (n at : ℕ) (found : Token) (here after : State) → ((number from to : ℕ) → found ≡ token.CalloutItem number from to → ⊥) →
+no_callout : (calling : Bool) (text : List ℕ) (n at : ℕ) (found : Token) (here after : State)
+    → ((number from to : ℕ) → found ≡ token.CalloutItem number from to → ⊥) →
     asserted_by calling text n at found here after ≡ look_by at (automatic_lead calling text here) found here after
 no_callout calling text n at (token.CalloutItem number from to) here after p = absurd (p number from to refl)
 no_callout calling text n at _ here after p = refl
@@ -26,14 +28,17 @@ on_err (Err e) f h = f e h
 pub returns-in-Err-clause-bad : goal.returns-in-Err-clause-bad
 unfolding assertion
 returns-in-Err-clause-bad c st n h =
-    rw (c.from.ensures, c.in-Err.ensures.bad st n h) (ap (λ (g : Fault). let r : Result Assertion Fault = Err g in r) (sym c.fault_of_test.ensures))
+    rw (c.from.ensures, c.in-Err.ensures.bad st n h)
+    (ap (λ (g : Fault). let r : Result Assertion Fault = Err g in r) (sym c.fault_of_test.ensures))
 
 pub returns-in-Err-clause-number : goal.returns-in-Err-clause-number
-returns-in-Err-clause-number c = rw (c.from.ensures, c.fault_of_test.ensures) (test_listed c.args.at c.in-Err.fault c.in-Err.ensures.number)
+returns-in-Err-clause-number c = rw (c.from.ensures, c.fault_of_test.ensures)
+    (test_listed c.args.at c.in-Err.fault c.in-Err.ensures.number)
 
 pub returns-in-Err-clause-place : goal.returns-in-Err-clause-place
 returns-in-Err-clause-place c h =
-    rw (c.from.ensures, c.fault_of_test.ensures) (test_inside c.args.at c.in-Err.fault c.args.self.now.text.now h c.in-Err.ensures.place)
+    rw (c.from.ensures, c.fault_of_test.ensures)
+    (test_inside c.args.at c.in-Err.fault c.args.self.now.text.now h c.in-Err.ensures.place)
 
 pub returns-in_err-look-clause-number : goal.returns-in_err-look-clause-number
 returns-in_err-look-clause-number c =
@@ -47,21 +52,26 @@ returns-in_err-look-clause-place c h =
 
 pub returns-then-not-calling-clause-bad : goal.returns-then-not-calling-clause-bad
 unfolding assertion
-returns-then-not-calling-clause-bad c st n h = rw (c.in-Ok.ensures.found st n h, c.in-CalloutItem.is, c.if-not-calling.true) refl
+returns-then-not-calling-clause-bad c st n h =
+    rw (c.in-Ok.ensures.found st n h, c.in-CalloutItem.is, c.if-not-calling.true) refl
 
 pub returns-in-CalloutItem-clause-found : goal.returns-in-CalloutItem-clause-found
 unfolding assertion
 returns-in-CalloutItem-clause-found c =
     on_ok c.called_look.result (λ a found st n h.
-    let later : length c.args.self.now.text.now < n + c.in-Ok.spot.after.at = omega (arith, h, c.in-Ok.ensures.past, c.in-Ok.ensures.onward) in
-    rw (c.in-Ok.ensures.found st n h, c.in-CalloutItem.is, c.if-not-calling.false) (found st n later)) c.called_look.ensures.found
+    let later : length c.args.self.now.text.now < n + c.in-Ok.spot.after.at =
+    omega (arith, h, c.in-Ok.ensures.past, c.in-Ok.ensures.onward) in
+    rw (c.in-Ok.ensures.found st n h, c.in-CalloutItem.is, c.if-not-calling.false) (found st n later))
+    c.called_look.ensures.found
 
 pub returns-in-CalloutItem-clause-bad : goal.returns-in-CalloutItem-clause-bad
 unfolding assertion
 returns-in-CalloutItem-clause-bad c =
     on_err c.called_look.result (λ e bad st n h.
-    let later : length c.args.self.now.text.now < n + c.in-Ok.spot.after.at = omega (arith, h, c.in-Ok.ensures.past, c.in-Ok.ensures.onward) in
-    rw (c.in-Ok.ensures.found st n h, c.in-CalloutItem.is, c.if-not-calling.false) (bad st n later)) c.called_look.ensures.bad
+    let later : length c.args.self.now.text.now < n + c.in-Ok.spot.after.at =
+    omega (arith, h, c.in-Ok.ensures.past, c.in-Ok.ensures.onward) in
+    rw (c.in-Ok.ensures.found st n h, c.in-CalloutItem.is, c.if-not-calling.false) (bad st n later))
+    c.called_look.ensures.bad
 
 pub returns-in_err-look-clause-bad : goal.returns-in_err-look-clause-bad
 unfolding assertion
@@ -72,7 +82,8 @@ returns-in_err-look-clause-bad c =
     rw (p.1, p.2) (λ st n h.
     rw (c.in-Ok.ensures.found st n h)
     (no_callout _ _ _ _ _ _ _ c.in_default.not-CalloutItem
-    ∙ ap (λ lead. look_by c.args.at lead s.token (state_at v st s.here) (state_at v st s.after)) (c.in_ok-lead.ensures.value st) ∙ c.in_err-look.ensures.bad st))
+    ∙ ap (λ lead. look_by c.args.at lead s.token (state_at v st s.here) (state_at v st s.after))
+    (c.in_ok-lead.ensures.value st) ∙ c.in_err-look.ensures.bad st))
 
 pub returns-clause-found : goal.returns-clause-found
 unfolding assertion
@@ -81,4 +92,5 @@ returns-clause-found c st n h =
     let s = c.in-Ok.spot in
     rw (c.in-Ok.ensures.found st n h)
     (no_callout _ _ _ _ _ _ _ c.in_default.not-CalloutItem
-    ∙ ap (λ lead. look_by c.args.at lead s.token (state_at v st s.here) (state_at v st s.after)) (c.in_ok-lead.ensures.value st) ∙ c.in_ok-look.ensures.found st)
+    ∙ ap (λ lead. look_by c.args.at lead s.token (state_at v st s.here) (state_at v st s.after))
+    (c.in_ok-lead.ensures.value st) ∙ c.in_ok-look.ensures.found st)

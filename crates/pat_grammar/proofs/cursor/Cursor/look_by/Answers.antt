@@ -9,7 +9,8 @@ use Rattle.pat_grammar.specs.Parts.{look_by}
 use Rattle.pat_grammar.proofs.cursor.Cursor.look_by.Goals as goal
 
 -- another token
-no_lookaround : (at : ℕ) (lead : List Nested) (found : Token) (here after : State) → ((kind : OpenKind) → found ≡ token.Open kind → ⊥) → look_by at lead found here after ≡ fault 128 at
+no_lookaround : (at : ℕ) (lead : List Nested) (found : Token) (here after : State)
+    → ((kind : OpenKind) → found ≡ token.Open kind → ⊥) → look_by at lead found here after ≡ fault 128 at
 no_lookaround at lead (token.Open kind) here after p = absurd (p kind refl)
 no_lookaround at lead _ here after p = refl
 

@@ -8,13 +8,15 @@ items-init c = comes_first c.args.self.now c.requires
 pub items-preserved : goal.items-preserved
 items-preserved c =
     let v = c.items.cursor in
-    (comes_on c.args.self.now v c.in-Ok.token c.in-Ok.at c.items.invariant c.in-Ok.ensures.value c.in-Ok.ensures.moves c.in-Some.beyond
+    (comes_on c.args.self.now v c.in-Ok.token c.in-Ok.at c.items.invariant c.in-Ok.ensures.value c.in-Ok.ensures.moves
+    c.in-Some.beyond
     (λ st. c.in-Some.ensures.value st) c.in-Some.ensures.text c.in-Some.ensures.stays).0
 
 pub items-smaller : goal.items-smaller
 items-smaller c =
     let v = c.items.cursor in
-    let on = comes_on c.args.self.now v c.in-Ok.token c.in-Ok.at c.items.invariant c.in-Ok.ensures.value c.in-Ok.ensures.moves c.in-Some.beyond
+    let on = comes_on c.args.self.now v c.in-Ok.token c.in-Ok.at c.items.invariant c.in-Ok.ensures.value
+    c.in-Ok.ensures.moves c.in-Some.beyond
     (λ st. c.in-Some.ensures.value st) c.in-Some.ensures.text c.in-Some.ensures.stays in
     let long = on.0.text in
     let before = c.items.invariant.text in
@@ -26,5 +28,6 @@ returns-in_default-clause-value c =
 
 pub returns-in_default-set_over-clause-value : goal.returns-in_default-set_over-clause-value
 returns-in_default-set_over-clause-value c =
-    comes_to c.args.self.now c.items.cursor c.in-Ok.token c.in-Ok.at c.items.invariant c.in-Ok.ensures.value c.in_ok-end.end
+    comes_to c.args.self.now c.items.cursor c.in-Ok.token c.in-Ok.at c.items.invariant c.in-Ok.ensures.value
+    c.in_ok-end.end
     (λ st. c.in_default-set_over.ensures.value st) (λ st. c.in_ok-end.ensures.value st)

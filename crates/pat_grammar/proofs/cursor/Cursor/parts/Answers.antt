@@ -8,16 +8,20 @@ items-init c = rw c.new-parts.ensures (begins_first c.args.self.now c.args.self.
 pub items-preserved : goal.items-preserved
 items-preserved c =
     rw c.in_ok-push-in-Some.ensures.ok
-    (reaches_on c.args.self.now c.args.self.now.place c.items.place c.items.first c.items.parts c.items.invariant c.in_ok-part.next c.in-Some.part
-    (rw c.in-Some.is at c.in_ok-part.ensures.more) c.in_ok-part.ensures.within (rw c.in-Some.is at c.in_ok-part.ensures.step))
+    (reaches_on c.args.self.now c.args.self.now.place c.items.place c.items.first c.items.parts c.items.invariant
+    c.in_ok-part.next c.in-Some.part
+    (rw c.in-Some.is at c.in_ok-part.ensures.more) c.in_ok-part.ensures.within
+    (rw c.in-Some.is at c.in_ok-part.ensures.step))
 
 pub returns-in-None-clause-parts : goal.returns-in-None-clause-parts
 returns-in-None-clause-parts c =
-    reaches_end c.args.self.now c.args.self.now.place c.items.place c.items.first c.items.parts c.items.invariant c.in_ok-part.next
+    reaches_end c.args.self.now c.args.self.now.place c.items.place c.items.first c.items.parts c.items.invariant
+    c.in_ok-part.next
     (rw c.in-None.is at c.in_ok-part.ensures.step)
 
 pub returns-in_err-part-clause-bad : goal.returns-in_err-part-clause-bad
 returns-in_err-part-clause-bad c =
     let p = err_from_is_err_and c.from_residual.result c.from_residual.ensures.1 in
     rw (p.1, p.2)
-    (reaches_bad c.args.self.now c.args.self.now.place c.items.place c.items.first c.items.parts c.items.invariant c.in_err-part.field-0.0 c.in_err-part.ensures.bad)
+    (reaches_bad c.args.self.now c.args.self.now.place c.items.place c.items.first c.items.parts c.items.invariant
+    c.in_err-part.field-0.0 c.in_err-part.ensures.bad)

@@ -17,8 +17,10 @@ returns-in-Quantifier-clause-value c st =
 pub returns-in_default-token : goal.returns-in_default-token
 unfolding quantified_end
 returns-in_default-token c = record {
-  value = λ st. ap (end_at c.args.place.at) (c.in-Ok.ensures.found st (length c.args.self.now.text.now + 2) (omega arith))
-      ∙ end_here c.args.place.at c.in-Ok.item.token (state_at c.args.self.now st c.in-Ok.item.after) c.in_default-token.not-Quantifier;
+  value = λ st. ap (end_at c.args.place.at)
+      (c.in-Ok.ensures.found st (length c.args.self.now.text.now + 2) (omega arith))
+      ∙ end_here c.args.place.at c.in-Ok.item.token (state_at c.args.self.now st c.in-Ok.item.after)
+      c.in_default-token.not-Quantifier;
   past = omega arith;
   within = c.requires;
 }

@@ -9,13 +9,15 @@ pub returns-in_err-item-clause-bad : goal.returns-in_err-item-clause-bad
 returns-in_err-item-clause-bad c =
     let p = err_from_is_err_and c.from_residual.result c.from_residual.ensures.1 in
     rw (p.1, p.2)
-    (λ st n more. parts_bad c.args.self.now.text.now n c.args.first (state_at c.args.self.now st c.args.place) c.in_err-item.field-0.0 (c.in_err-item.ensures.bad st n more))
+    (λ st n more. parts_bad c.args.self.now.text.now n c.args.first (state_at c.args.self.now st c.args.place)
+    c.in_err-item.field-0.0 (c.in_err-item.ensures.bad st n more))
 
 pub returns-then-closes-clause-step : goal.returns-then-closes-clause-step
 returns-then-closes-clause-step c = λ st n more.
     let i = c.in_ok-item.item in
     let at = state_at c.args.self.now st in
-    parts_closed c.args.self.now.text.now n c.args.first (at c.args.place) i.token (at i.here) (at i.after) (c.in_ok-item.ensures.found st n more)
+    parts_closed c.args.self.now.text.now n c.args.first (at c.args.place) i.token (at i.here) (at i.after)
+    (c.in_ok-item.ensures.found st n more)
     (sym c.closes.ensures ∙ c.if-closes.true)
 
 pub returns-in_err-part-clause-bad : goal.returns-in_err-part-clause-bad
@@ -25,14 +27,18 @@ returns-in_err-part-clause-bad c =
     rw (p.1, p.2)
     (λ st n more.
     let at = state_at c.args.self.now st in
-    parts_from c.args.self.now.text.now n c.args.first (at c.args.place) i.token (at i.here) (at i.after) (c.in_ok-item.ensures.found st n more)
-    ∙ c.in_err-part.ensures.bad c.args.first (sym c.closes.ensures ∙ c.if-closes.false) st n (class_parts c.args.self.now.text.now n false)
+    parts_from c.args.self.now.text.now n c.args.first (at c.args.place) i.token (at i.here) (at i.after)
+    (c.in_ok-item.ensures.found st n more)
+    ∙ c.in_err-part.ensures.bad c.args.first (sym c.closes.ensures ∙ c.if-closes.false) st n
+    (class_parts c.args.self.now.text.now n false)
     (omega (arith, c.in_ok-item.ensures.past, c.in_ok-item.ensures.onward)))
 
 pub returns-clause-step : goal.returns-clause-step
 returns-clause-step c = λ st n more.
     let i = c.in_ok-item.item in
     let at = state_at c.args.self.now st in
-    parts_from c.args.self.now.text.now n c.args.first (at c.args.place) i.token (at i.here) (at i.after) (c.in_ok-item.ensures.found st n more)
-    ∙ c.in_ok-part.ensures.part c.args.first (sym c.closes.ensures ∙ c.if-closes.false) st n (class_parts c.args.self.now.text.now n false)
+    parts_from c.args.self.now.text.now n c.args.first (at c.args.place) i.token (at i.here) (at i.after)
+    (c.in_ok-item.ensures.found st n more)
+    ∙ c.in_ok-part.ensures.part c.args.first (sym c.closes.ensures ∙ c.if-closes.false) st n
+    (class_parts c.args.self.now.text.now n false)
     (omega (arith, c.in_ok-item.ensures.past, c.in_ok-item.ensures.onward))

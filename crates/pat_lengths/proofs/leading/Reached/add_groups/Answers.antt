@@ -10,7 +10,8 @@ add_if-requires c =
     let within : i < length c.args.numbers.now = omega arith in
     let count = length c.args.self.now.seen.items in
     subst (λ n. All (λ k. k < n) (number_in c.place.result)) (sym c.loop-number.invariant.size)
-    (subst (λ o. All (λ k. k < count) (number_in o)) (sym c.place.ensures) (placed_all (λ k. k < count) c.args.groups.now.places.items c.args.numbers.now i 0 within c.requires))
+    (subst (λ o. All (λ k. k < count) (number_in o)) (sym c.place.ensures)
+    (placed_all (λ k. k < count) c.args.groups.now.places.items c.args.numbers.now i 0 within c.requires))
 
 pub loop-number-preserved : goal.loop-number-preserved
 loop-number-preserved c =

@@ -7,7 +7,8 @@ use Rattle.pat_lengths.proofs.leading.Reached.go_on.Goals as goal
 
 pub add_named-requires : goal.add_named-requires
 add_named-requires c =
-    subst (λ n. All (λ k. k < n) (places_of c.args.groups.now.places.items (names_of c.args.node.now))) (sym c.in_ok-add_kids.ensures.size) c.requires.places
+    subst (λ n. All (λ k. k < n) (places_of c.args.groups.now.places.items (names_of c.args.node.now)))
+    (sym c.in_ok-add_kids.ensures.size) c.requires.places
 
 pub returns : goal.returns
 returns c =

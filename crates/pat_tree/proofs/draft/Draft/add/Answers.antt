@@ -10,19 +10,23 @@ use Rattle.pat_tree.proofs.draft.Draft.add.Goals as goal
 
 pub returns-clause-made : goal.returns-clause-made
 returns-clause-made c =
-    rw (c.in_ok-push.ensures.items, c.len-id.ensures, c.self.inside.nodes.ok.0, ← c.self.view_is) (makes_push c.self.inside.nodes.items (record { node = c.args.node; at = c.args.at }))
+    rw (c.in_ok-push.ensures.items, c.len-id.ensures, c.self.inside.nodes.ok.0, ← c.self.view_is)
+    (makes_push c.self.inside.nodes.items (record { node = c.args.node; at = c.args.at }))
 
 pub returns-clause-refs : goal.returns-clause-refs
 returns-clause-refs c =
-    rw (c.in_ok-push.ensures.items, ← c.self.view_is) (refs_push c.self.inside.nodes.items (record { node = c.args.node; at = c.args.at }))
+    rw (c.in_ok-push.ensures.items, ← c.self.view_is)
+    (refs_push c.self.inside.nodes.items (record { node = c.args.node; at = c.args.at }))
 
 pub returns-clause-loose : goal.returns-clause-loose
 returns-clause-loose c =
-    rw (c.in_ok-push.ensures.items, ← c.self.view_is) (loose_push c.self.inside.nodes.items (record { node = c.args.node; at = c.args.at }))
+    rw (c.in_ok-push.ensures.items, ← c.self.view_is)
+    (loose_push c.self.inside.nodes.items (record { node = c.args.node; at = c.args.at }))
 
 pub returns-clause-replaces : goal.returns-clause-replaces
 returns-clause-replaces c =
-    rw (c.in_ok-push.ensures.items, c.len-id.ensures, c.self.inside.nodes.ok.0, ← c.self.view_is) (replaces_push c.self.inside.nodes.items (record { node = c.args.node; at = c.args.at }))
+    rw (c.in_ok-push.ensures.items, c.len-id.ensures, c.self.inside.nodes.ok.0, ← c.self.view_is)
+    (replaces_push c.self.inside.nodes.items (record { node = c.args.node; at = c.args.at }))
 
 pub invariant_of-self-2 : goal.invariant_of-self-2
 invariant_of-self-2 c =
@@ -31,21 +35,23 @@ invariant_of-self-2 c =
     let ps = c.self.inside.nodes.items in
     let groups : (n : ℕ) → marked c.insert_reserved.new.self n ≡ has_group (ps ++ p ∷ []) n =
     λ n. c.insert_reserved.ensures n
-    ∙ ap (λ t. t || is_in n (number_in c.group_number-number.result)) (c.in_ok-reserve.ensures.same n ∙ c.self.invariant.1 n)
+    ∙ ap (λ t. t || is_in n (number_in c.group_number-number.result))
+    (c.in_ok-reserve.ensures.same n ∙ c.self.invariant.1 n)
     ∙ ap (λ ks. has_group ps n || is_in n ks) c.group_number-number.ensures
     ∙ sym (has_group_push ps p n) in
     rw c.in_ok-push.ensures.items (
       record {
-        nodes = sound_push (length c.self.inside.classes.items) (length c.self.inside.verb_names.items) ps p c.self.invariant.0.nodes (record {
-          kids = given.kids;
-          classes = given.classes;
-          verb_names = given.verb_names;
-          numbered = given.numbered;
-          named = given.named;
-          ordered = given.ordered;
-          define = given.define;
-          test = given.test;
-        }) given.fresh;
+        nodes = sound_push (length c.self.inside.classes.items) (length c.self.inside.verb_names.items) ps p
+            c.self.invariant.0.nodes (record {
+              kids = given.kids;
+              classes = given.classes;
+              verb_names = given.verb_names;
+              numbered = given.numbered;
+              named = given.named;
+              ordered = given.ordered;
+              define = given.define;
+              test = given.test;
+            }) given.fresh;
         ordered = c.self.invariant.0.ordered;
         node_count = omega (arith, given.room, length-append ps (p ∷ []));
         class_count = c.self.invariant.0.class_count;

@@ -3,4 +3,5 @@ use Rattle.pat_tree.proofs.Marks.{marked_push}
 use Rattle.pat_tree.proofs.group_set.GroupSet.reserve.Goals as goal
 
 pub loop-self-preserved : goal.loop-self-preserved
-loop-self-preserved c = λ n. rw c.in_ok-push.ensures.items (marked_push c.loop-self.self-inside.marks.items n ∙ c.loop-self.invariant n)
+loop-self-preserved c = λ n. rw c.in_ok-push.ensures.items (marked_push c.loop-self.self-inside.marks.items n
+    ∙ c.loop-self.invariant n)

@@ -10,7 +10,8 @@ invariant_of-self-2 c =
     let name : c.from_vec.result ≡ c.args.name.now = search rules in
     let same : f ≡ e = rw name refl in
     let place = rw c.deref.ensures.value at c.in-Err.ensures.is in
-    rw c.in_ok-insert.ensures.items (still_ordered_at e f c.self.inside.entries.items c.in-Err.place place same c.self.invariant)
+    rw c.in_ok-insert.ensures.items (still_ordered_at e f c.self.inside.entries.items c.in-Err.place place same
+    c.self.invariant)
 
 pub returns-clause-ordered : goal.returns-clause-ordered
 returns-clause-ordered c =
@@ -19,4 +20,5 @@ returns-clause-ordered c =
     let name : c.from_vec.result ≡ c.args.name.now = search rules in
     let same : f ≡ e = rw name refl in
     let place = rw c.deref.ensures.value at c.in-Err.ensures.is in
-    rw c.in_ok-insert.ensures.items (still_ordered_at e f c.self.inside.entries.items c.in-Err.place place same c.self.invariant)
+    rw c.in_ok-insert.ensures.items (still_ordered_at e f c.self.inside.entries.items c.in-Err.place place same
+    c.self.invariant)

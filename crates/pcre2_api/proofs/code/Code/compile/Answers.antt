@@ -14,8 +14,10 @@ pub invariant_of-result : goal.invariant_of-result
 invariant_of-result c =
     let told = c.in_ok-facts.ensures in
     let t = c.in_ok-tree.tree in
-    let begins : IsByteSet c.in_ok-facts.facts.lead (lead_set_of t (fold_in t.options.utf)) = elim (cases_Bool t.options.utf) [
-      | inl on ↦ subst (λ utf. IsByteSet c.in_ok-facts.facts.lead (lead_set_of t (fold_in utf))) (sym on) (told.lead_in_utf on)
+    let begins : IsByteSet c.in_ok-facts.facts.lead (lead_set_of t (fold_in t.options.utf)) =
+    elim (cases_Bool t.options.utf) [
+      | inl on ↦ subst (λ utf. IsByteSet c.in_ok-facts.facts.lead (lead_set_of t (fold_in utf))) (sym on)
+          (told.lead_in_utf on)
       | inr off ↦ told.lead off (fold_in t.options.utf)
     ] in
     record {
@@ -43,17 +45,24 @@ invariant_of-result c =
 pub returns-clause-compiled : goal.returns-clause-compiled
 returns-clause-compiled c =
     let t = c.in_ok-tree.tree in
-    let is = compiled_is c.first_refused_is_leftmost.ensures c.args.options c.args.pattern.now t c.is_sound.ensures c.in_ok-tree.ensures.turns c.in_ok-tree.ensures.under c.in_ok-tree.ensures.ok in
-    (c.in_ok-text.ensures.items_if_clones_equal (λ x y same. same), c.in_ok-tree.ensures.ok, is ∙ ap (unless_refused (pattern_of t)) c.in_ok-facts.ensures.fixed)
+    let is = compiled_is c.first_refused_is_leftmost.ensures c.args.options c.args.pattern.now t c.is_sound.ensures
+    c.in_ok-tree.ensures.turns c.in_ok-tree.ensures.under c.in_ok-tree.ensures.ok in (
+      c.in_ok-text.ensures.items_if_clones_equal (λ x y same. same),
+      c.in_ok-tree.ensures.ok,
+      is
+          ∙ ap (unless_refused (pattern_of t)) c.in_ok-facts.ensures.fixed,
+    )
 
 pub returns-in_err-facts-clause-refused : goal.returns-in_err-facts-clause-refused
 returns-in_err-facts-clause-refused c =
     let t = c.in_ok-tree.tree in
     let e = c.in_err-facts.field-0.0 in
-    let is = compiled_is c.first_refused_is_leftmost.ensures c.args.options c.args.pattern.now t c.is_sound.ensures c.in_ok-tree.ensures.turns c.in_ok-tree.ensures.under c.in_ok-tree.ensures.ok in
+    let is = compiled_is c.first_refused_is_leftmost.ensures c.args.options c.args.pattern.now t c.is_sound.ensures
+    c.in_ok-tree.ensures.turns c.in_ok-tree.ensures.under c.in_ok-tree.ensures.ok in
     let same : c.from_residual-in_err-facts.result ≡ Err (check_error_of e) = search rules in
     subst (λ r. IfErr r (IsCompileError (compiled c.args.options c.args.pattern.now))) (sym same)
-    (check_refused (compiled c.args.options c.args.pattern.now) (pattern_of t) (first_fault t) e c.in_err-facts.ensures.refused is)
+    (check_refused (compiled c.args.options c.args.pattern.now) (pattern_of t) (first_fault t) e
+    c.in_err-facts.ensures.refused is)
 
 pub returns-in_err-tree-clause-refused : goal.returns-in_err-tree-clause-refused
 returns-in_err-tree-clause-refused c =

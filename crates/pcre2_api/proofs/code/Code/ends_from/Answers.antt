@@ -30,8 +30,10 @@ dfa_search-requires-clause-ready g c =
       table = c.ready-ready.ensures.table;
       facts = c.ready-ready.ensures.facts;
       options = c.options-compiled.ensures;
-      subject = subst (λ (o : Options). IsText o subject) (sym same) (begun-text _ _ _ c.requires.begun c.requires.short);
-      start = subst (λ (o : Options). IsTextPlace o subject c.args.start) (sym same) (begun-place _ _ _ c.requires.begun);
+      subject = subst (λ (o : Options). IsText o subject) (sym same)
+          (begun-text _ _ _ c.requires.begun c.requires.short);
+      start = subst (λ (o : Options). IsTextPlace o subject c.args.start) (sym same)
+          (begun-place _ _ _ c.requires.begun);
     }
 
 pub returns-in-Ends-clause-found : goal.returns-in-Ends-clause-found
@@ -42,7 +44,8 @@ returns-in-Ends-clause-found g c =
     let answer = EndsFrom c.in-Ends.start c.in-Ends.ends in
     let served = rw c.ready-ready.ensures.tree at c.in_ok-graph.ensures.served in
     let is : dfa_answer asked matching.dfa_shortest ≡ answer = subst
-    (λ (t : TreeParts). dfa_answer (setting_in t matching subject c.args.start passed_over) matching.dfa_shortest ≡ answer)
+    (λ (t : TreeParts). dfa_answer (setting_in t matching subject c.args.start passed_over)
+    matching.dfa_shortest ≡ answer)
     c.ready-ready.ensures.tree (rw c.in-Ends.is at c.in_ok-answer.ensures.answer) in
     (answered asked c.requires.begun answer served is, rw c.in-Ends.is at c.in_ok-answer.ensures.placed)
 
@@ -58,7 +61,8 @@ returns-in-NoMatch-clause-refused g c =
     let asked = search_of c.args.self.now matching subject c.args.start passed_over in
     let served = rw c.ready-ready.ensures.tree at c.in_ok-graph.ensures.served in
     let is : dfa_answer asked matching.dfa_shortest ≡ NoMatch = subst
-    (λ (t : TreeParts). dfa_answer (setting_in t matching subject c.args.start passed_over) matching.dfa_shortest ≡ NoMatch)
+    (λ (t : TreeParts). dfa_answer (setting_in t matching subject c.args.start passed_over)
+    matching.dfa_shortest ≡ NoMatch)
     c.ready-ready.ensures.tree (rw c.in-NoMatch.is at c.in_ok-answer.ensures.answer) in
     answered asked c.requires.begun NoMatch served is
 
@@ -70,7 +74,8 @@ returns-clause-refused g c =
     let answer = PartialFrom c.in-Partial.start in
     let served = rw c.ready-ready.ensures.tree at c.in_ok-graph.ensures.served in
     let is : dfa_answer asked matching.dfa_shortest ≡ answer = subst
-    (λ (t : TreeParts). dfa_answer (setting_in t matching subject c.args.start passed_over) matching.dfa_shortest ≡ answer)
+    (λ (t : TreeParts). dfa_answer (setting_in t matching subject c.args.start passed_over)
+    matching.dfa_shortest ≡ answer)
     c.ready-ready.ensures.tree (rw c.in-Partial.is at c.in_ok-answer.ensures.answer) in
     let same : c.options-compiled.result.now ≡ c.args.self.now.tree.options = c.options-compiled.ensures
     ∙ ap (λ (t : TreeParts). t.options) c.ready-ready.ensures.tree in

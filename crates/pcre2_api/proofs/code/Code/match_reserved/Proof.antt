@@ -1,5 +1,14 @@
 -- The workspace goes to the search, what it holds goes into the match, and what the search says is said of the match.
-use Rattle.pcre2_api.proofs.LendingSteps.{◌≡◌, [], ◌∷◌, refl, w64, proved, id⊢, emp, Fml, ftrue, fsep, flft, named, tables, fact, fact_i, ‵, raw, ◌⊛◌, some, later, ◌$◌, ◌∵◌, !, qed, done, move, keep, drop, use0, use1, use2, split, join, pick, await, suffices, group, enter, addr, stop, no_more, and_then, returns, alloc_all, pass_all, free_all, look_at, get, through, sets, lands_as, u8, usize, RefOf, RefMutOf, SliceRefOf, yes, no, Is, shows, uint_vals, uint_Tells, RattleType, MutRef, ShrRef, mut_vals, mut_Tells, shr_vals, shr_Tells, Slot, type_at, plain, ShrSlice, shr_slice_vals, shr_slice_Tells, nothing, heard, peeks, calls_at, Lasts, lasts, at_exit, triple_of, Stays, walk_of, stay_dropped, Goes-dropped, ends_at, framed}
+use Rattle.pcre2_api.proofs.LendingSteps.{◌≡◌, [], ◌∷◌, refl, w64, proved, id⊢, emp, Fml, ftrue, fsep, flft, named}
+use Rattle.pcre2_api.proofs.LendingSteps.{tables, fact, fact_i, ‵, raw, ◌⊛◌, some, later, ◌$◌, ◌∵◌, !, qed, done}
+use Rattle.pcre2_api.proofs.LendingSteps.{move, keep, drop, use0, use1, use2, split, join, pick, await, suffices}
+use Rattle.pcre2_api.proofs.LendingSteps.{group, enter, addr, stop, no_more, and_then, returns, alloc_all, pass_all}
+use Rattle.pcre2_api.proofs.LendingSteps.{free_all, look_at, get, through, sets, lands_as, u8, usize, RefOf}
+use Rattle.pcre2_api.proofs.LendingSteps.{RefMutOf, SliceRefOf, yes, no, Is, shows, uint_vals, uint_Tells}
+use Rattle.pcre2_api.proofs.LendingSteps.{RattleType, MutRef, ShrRef, mut_vals, mut_Tells, shr_vals, shr_Tells, Slot}
+use Rattle.pcre2_api.proofs.LendingSteps.{type_at, plain, ShrSlice, shr_slice_vals, shr_slice_Tells, nothing, heard}
+use Rattle.pcre2_api.proofs.LendingSteps.{peeks, calls_at, Lasts, lasts, at_exit, triple_of, Stays, walk_of}
+use Rattle.pcre2_api.proofs.LendingSteps.{stay_dropped, Goes-dropped, ends_at, framed}
 use Rattle.std.specs.Prelude.{⊤, IfOk, IfErr, pos}
 use Rattle.std.proofs.result.Result.TheLaws.{the_row_laws as result_laws}
 use Rattle.match_drive.specs.frame_machine.contracts.scratch.Scratch.{the_row as workspace}
@@ -39,23 +48,41 @@ abbrev s4 : Slot 2
 s4 = RefMutOf (0 ∷ []) tt (plain (λ _. workspace)) (λ _. tt)
 
 abbrev stayed : Stays f.ended.signature.params f.ended.kept
-stayed = (stay_dropped s0 yes, (stay_dropped s1 yes, (stay_dropped s2 yes, (stay_dropped s3 yes, (stay_dropped s4 no, tt)))))
+stayed = (
+  stay_dropped s0 yes,
+  (stay_dropped s1 yes, (stay_dropped s2 yes, (stay_dropped s3 yes, (stay_dropped s4 no, tt)))),
+)
 
 pub match_reserved_spec : {M : Type 1} → statement M
 match_reserved_spec 𝓤 𝓛 𝓜 𝓡 wired =
     let c = f.clauses 𝓛 𝓜.mem 𝓡.returns in
-    proved 𝓛 f.ended stayed c 𝓜 𝓡
-    (Goes-dropped 𝓛 2 s0 yes (λ κs x w. refl), (Goes-dropped 𝓛 2 s1 yes (λ κs x w. refl), (Goes-dropped 𝓛 2 s2 yes (λ κs x w. refl), (Goes-dropped 𝓛 2 s3 yes (λ κs x w. refl), (Goes-dropped 𝓛 2 s4 no (λ κs x w. refl), tt)))))
+    proved 𝓛 f.ended stayed c 𝓜 𝓡 (
+      Goes-dropped 𝓛 2 s0 yes (λ κs x w. refl),
+      (
+        Goes-dropped 𝓛 2 s1 yes (λ κs x w. refl),
+        (
+          Goes-dropped 𝓛 2 s2 yes (λ κs x w. refl),
+          (Goes-dropped 𝓛 2 s3 yes (λ κs x w. refl), (Goes-dropped 𝓛 2 s4 no (λ κs x w. refl), tt)),
+        ),
+      ),
+    )
     f.Key.name code.function (code.unfolded 𝓤 𝓛.H 𝓜 𝓡 wired)
     (λ κs. (shr_vals, (shr_slice_vals, (uint_vals w64, (shr_vals, (mut_vals, tt))))))
-    (λ κs. (shr_Tells (named 0) κs.0 compiled, (shr_slice_Tells (named 0) κs.0 u8, (uint_Tells w64, (shr_Tells (named 1) κs.1.0 matching, (mut_Tells (named 0) κs.0 workspace, tt))))))
+    (λ κs. (
+      shr_Tells (named 0) κs.0 compiled,
+      (
+        shr_slice_Tells (named 0) κs.0 u8,
+        (uint_Tells w64, (shr_Tells (named 1) κs.1.0 matching, (mut_Tells (named 0) κs.0 workspace, tt))),
+      ),
+    ))
     (λ κs qs bounds a _ are.
     let G = triple_of 𝓛 g.signature (g.spec 𝓛 𝓜.mem 𝓡.returns) in
     let H = triple_of 𝓛 h.signature (h.spec 𝓛 𝓜.mem 𝓡.returns) in
     let Mid : RattleType = type_at g.signature.result κs in
     let Out : RattleType = type_at f.signature.result κs in
     let a1 = a.1.0 in let a2 = a.1.1.0 in let a3 = a.1.1.1.0 in let a4 = a.1.1.1.1.0 in
-    let v0 = shr_vals a.0 in let v1 = shr_slice_vals a1 in let v2 = uint_vals w64 a2 in let v3 = shr_vals a3 in let v4 = mut_vals a4 in
+    let v0 = shr_vals a.0 in let v1 = shr_slice_vals a1 in let v2 = uint_vals w64 a2 in let v3 = shr_vals a3 in
+    let v4 = mut_vals a4 in
     let W = walk_of 𝓛 f.ended stayed c in
     let y : W.Ghost = ((κs, qs, bounds, a, (v0, (v1, (v2, (v3, (v4, tt)))))), tt) in
     let z : G.Ghost = ((κs, qs, bounds, (a4, (a.0, (a1, (a2, (a3, tt))))), (v4, (v0, (v1, (v2, (v3, tt)))))), tt) in
@@ -67,17 +94,30 @@ match_reserved_spec 𝓤 𝓛 𝓜 𝓡 wired =
     let rest : Fml = fsep (flft κs.1.0 qs.1.0) ftrue in
     let S = search_of a.0.now a3.now a1.now a2 (λ block. pos 0) in
     qed 𝓛 (((‵ (flft κs.0 qs.0) ⊛ ‵ rest) ⊛ O0 ⊛ O1 ⊛ O2 ⊛ O3 ⊛ O4 ⊛ ‵ ftrue) ∷ raw ((c κs a).requires tt) ∷ []) ∵
-    split ! $ move ! (1 ∷ []) $ split ! $ move ! (1 ∷ []) $ split ! $ move ! (1 ∷ []) $ split ! $ move ! (1 ∷ []) $ split ! $ move ! (1 ∷ []) $ split ! $
+    split ! $ move ! (1 ∷ []) $ split ! $ move ! (1 ∷ []) $ split ! $ move ! (1 ∷ []) $ split ! $ move ! (1 ∷ []) $
+    split ! $ move ! (1 ∷ []) $ split ! $
     -- [the workspace; nothing; the options; the start; the subject; the code; the tokens; what is required]
-    move ! (2 ∷ 1 ∷ []) $ join ! $ move ! (2 ∷ 0 ∷ []) $ join ! $ move ! (2 ∷ 0 ∷ []) $ join ! $ move ! (2 ∷ 0 ∷ []) $ join ! $ move ! (1 ∷ 0 ∷ []) $ join ! $
+    move ! (2 ∷ 1 ∷ []) $ join ! $ move ! (2 ∷ 0 ∷ []) $ join ! $ move ! (2 ∷ 0 ∷ []) $ join ! $ move ! (2 ∷ 0 ∷ []) $
+    join ! $ move ! (1 ∷ 0 ∷ []) $ join ! $
     move ! (1 ∷ 0 ∷ []) $ join ! $ use2 𝓛 (raw (G.pre z)) (id⊢ 𝓤 _) $
-    enter ! _ _ _ _ _ $ alloc_all ! (λ l. pass_all ! refl ((tt, tt), ((tt, (tt, (record { fits = are.1.0.0.1.0 }, tt))), ((tt, record { fits = are.1.1.0.1 }), ((tt, tt), ((tt, tt), tt))))) $
+    enter ! _ _ _ _ _ $ alloc_all !
+    (λ l. pass_all ! refl (
+      (tt, tt),
+      (
+        (tt, (tt, (record { fits = are.1.0.0.1.0 }, tt))),
+        ((tt, record { fits = are.1.1.0.1 }), ((tt, tt), ((tt, tt), tt))),
+      ),
+    ) $
     sets ! (addr ! (through ! refl (stop !))) refl (tt, tt) $
-    calls_at ! (framed 𝓤 𝓛.H 𝓜 (tables 𝓤 𝓛.H 𝓜 𝓡 𝓡.env)) G (seek-met 𝓤 𝓛 𝓜 𝓡 (code.calls-pcre2_api::seek::seek_reserved 𝓡.env wired)) z
-    (and_then ! (get ! refl) (and_then ! (get ! refl) (and_then ! (get ! refl) (and_then ! (get ! refl) (and_then ! (get ! refl) (no_more !)))))) (λ v.
+    calls_at ! (framed 𝓤 𝓛.H 𝓜 (tables 𝓤 𝓛.H 𝓜 𝓡 𝓡.env)) G
+    (seek-met 𝓤 𝓛 𝓜 𝓡 (code.calls-pcre2_api::seek::seek_reserved 𝓡.env wired)) z
+    (and_then ! (get ! refl)
+    (and_then ! (get ! refl)
+    (and_then ! (get ! refl) (and_then ! (get ! refl) (and_then ! (get ! refl) (no_more !)))))) (λ v.
     let aG = z.0.3 in
     use1 𝓛 (later (some (λ (r : Mid.Denot). ((‵ (flft κs.0 qs.0) ⊛ ‵ rest) ⊛ ‵ (Mid.own_val r (v ∷ []))) ⊛
-    some (λ (ws : Lasts g.ended κs aG). ‵ (lasts g.ended κs aG ws) ⊛ raw ((g.clauses 𝓛 𝓜.mem 𝓡.returns κs aG).ensures tt r (at_exit g.ended κs aG ws)))))) (id⊢ 𝓤 _) $
+    some (λ (ws : Lasts g.ended κs aG). ‵ (lasts g.ended κs aG ws) ⊛ raw
+    ((g.clauses 𝓛 𝓜.mem 𝓡.returns κs aG).ensures tt r (at_exit g.ended κs aG ws)))))) (id⊢ 𝓤 _) $
     await ! tt $ pick ! (λ r. split ! $ split ! $ split ! $ move ! (3 ∷ []) $ pick ! (λ ws. split ! $ move ! (1 ∷ []) $
     -- [what the search ensures; what is left; the token; the other tokens; what it holds; the locals]
     let Left = ‵ (Leaves a4 S ⊤) in
@@ -85,23 +125,44 @@ match_reserved_spec 𝓤 𝓛 𝓜 𝓡 wired =
     let Found-r : Type 0 = IfOk r (λ held. IsFound S (parts_of held)) in
     let Code-r : Type 0 = IfOk r (λ held. (held.code.now ≡ a.0.now) × (held.subject.now ≡ a1.now)) in
     let Refused-r : Type 0 = IfErr r (λ e. IsMatchError S (as_match_error e)) in
-    use1 𝓛 (Left ⊛ raw (fact 𝓤 Parts-r) ⊛ raw (fact 𝓤 Found-r) ⊛ raw (fact 𝓤 Code-r) ⊛ raw (fact 𝓤 Refused-r)) (id⊢ 𝓤 _) $
-    split ! $ move ! (1 ∷ []) $ split ! $ heard ! Parts-r (λ parts-is. split ! $ heard ! Found-r (λ found-is. split ! $ heard ! Code-r (λ code-is. heard ! Refused-r (λ refused-is.
+    use1 𝓛 (Left ⊛ raw (fact 𝓤 Parts-r) ⊛ raw (fact 𝓤 Found-r) ⊛ raw (fact 𝓤 Code-r) ⊛ raw (fact 𝓤 Refused-r))
+    (id⊢ 𝓤 _) $
+    split ! $ move ! (1 ∷ []) $ split ! $ heard ! Parts-r
+    (λ parts-is. split ! $ heard ! Found-r (λ found-is. split ! $ heard ! Code-r
+    (λ code-is. heard ! Refused-r (λ refused-is.
     -- [what the workspace ends as; what is left; the token; the other tokens; what it holds; the locals]
     move ! (4 ∷ []) $ peeks ! Mid (Is Mid) (shows 𝓛 Mid) r (v ∷ []) (λ is.
-    lands_as ! refl refl (((result_laws (held-type.the_row (record { mir = named 0; lft = κs.0 })) error-type.the_row (held_laws.the_row_laws (record { mir = named 0; lft = κs.0 })) error_laws.the_row_laws).lawful 𝓛).typed r (v ∷ []) is).0 $
+    lands_as ! refl refl
+    (((result_laws (held-type.the_row (record { mir = named 0; lft = κs.0 })) error-type.the_row
+    (held_laws.the_row_laws (record { mir = named 0; lft = κs.0 })) error_laws.the_row_laws).lawful 𝓛).typed
+    r (v ∷ []) is).0 $
     let z' : H.Ghost = (((κs.0, tt), (qs.0, tt), tt, (r, tt), (v ∷ [], tt)), tt) in
     nothing ! $ move ! (1 ∷ 0 ∷ []) $ join ! $ nothing ! $ move ! (4 ∷ 0 ∷ []) $ join ! $ join ! $
-    use0 𝓛 (raw (fact 𝓤 Parts-r)) (fact_i 𝓤 Parts-r (emp 𝓤) parts-is) $ move ! (1 ∷ 0 ∷ []) $ use2 𝓛 (raw (H.pre z')) (id⊢ 𝓤 _) $
-    calls_at ! (framed 𝓤 𝓛.H 𝓜 (tables 𝓤 𝓛.H 𝓜 𝓡 𝓡.env)) H (found-met 𝓤 𝓛 𝓜 𝓡 (code.calls-pcre2_api::found::reserved_found 𝓡.env wired)) z' (and_then ! (get ! refl) (no_more !)) (λ u.
+    use0 𝓛 (raw (fact 𝓤 Parts-r)) (fact_i 𝓤 Parts-r (emp 𝓤) parts-is) $ move ! (1 ∷ 0 ∷ []) $ use2 𝓛 (raw (H.pre z'))
+    (id⊢ 𝓤 _) $
+    calls_at ! (framed 𝓤 𝓛.H 𝓜 (tables 𝓤 𝓛.H 𝓜 𝓡 𝓡.env)) H
+    (found-met 𝓤 𝓛 𝓜 𝓡 (code.calls-pcre2_api::found::reserved_found 𝓡.env wired)) z'
+    (and_then ! (get ! refl) (no_more !)) (λ u.
     use1 𝓛 (later (some (λ (x : Out.Denot). ((‵ (flft κs.0 qs.0) ⊛ ‵ ftrue) ⊛ ‵ (Out.own_val x (u ∷ []))) ⊛
-    some (λ (os : Lasts h.ended (κs.0, tt) (r, tt)). ‵ (lasts h.ended (κs.0, tt) (r, tt) os) ⊛ raw (fact 𝓤 (x ≡ as_reserved r)))))) (id⊢ 𝓤 _) $
-    await ! tt $ pick ! (λ x. split ! $ split ! $ split ! $ move ! (3 ∷ []) $ pick ! (λ os. split ! $ drop ! $ heard ! (x ≡ as_reserved r) (λ e.
+    some (λ (os : Lasts h.ended (κs.0, tt) (r, tt)). ‵ (lasts h.ended (κs.0, tt) (r, tt) os) ⊛ raw
+    (fact 𝓤 (x ≡ as_reserved r)))))) (id⊢ 𝓤 _) $
+    await ! tt $ pick ! (λ x. split ! $ split ! $ split ! $ move ! (3 ∷ []) $ pick !
+    (λ os. split ! $ drop ! $ heard ! (x ≡ as_reserved r) (λ e.
     move ! (2 ∷ []) $ peeks ! Out (Is Out) (shows 𝓛 Out) x (u ∷ []) (λ is'.
-    lands_as ! refl refl (((result_laws (found-type.the_row (record { mir = named 0; lft = κs.0 })) error-type.the_row (found_laws.the_row_laws (record { mir = named 0; lft = κs.0 })) error_laws.the_row_laws).lawful 𝓛).typed x (u ∷ []) is').0 $
+    lands_as ! refl refl
+    (((result_laws (found-type.the_row (record { mir = named 0; lft = κs.0 })) error-type.the_row
+    (found_laws.the_row_laws (record { mir = named 0; lft = κs.0 })) error_laws.the_row_laws).lawful
+    𝓛).typed x (u ∷ []) is').0 $
     returns ! (look_at ! 0 refl) $ free_all ! refl $
     suffices ! _ (ends_at 𝓛 f.ended stayed c y u x (tt, (tt, (tt, (tt, (tt, tt))))) (tt, (tt, (tt, (tt, (tt, tt)))))) $
-    let Refused-x : Type 0 = IfErr x (λ err. IsMatchError S (as_match_error err)) in use0 𝓛 (raw (fact 𝓤 Refused-x)) (fact_i 𝓤 Refused-x (emp 𝓤) (if_refused_reserved r x e (λ err. IsMatchError S (as_match_error err)) refused-is)) $
-    let Code-x : Type 0 = IfOk x (λ m. (m.code ≡ a.0.now) × (m.subject ≡ a1.now)) in use0 𝓛 (raw (fact 𝓤 Code-x)) (fact_i 𝓤 Code-x (emp 𝓤) (if_found_reserved r x e (λ m. (m.code ≡ a.0.now) × (m.subject ≡ a1.now)) code-is)) $ join ! $
-    let Found-x : Type 0 = IfOk x (IsFound S) in use0 𝓛 (raw (fact 𝓤 Found-x)) (fact_i 𝓤 Found-x (emp 𝓤) (if_found_reserved r x e (IsFound S) found-is)) $ join ! $
-    move ! (4 ∷ 0 ∷ []) $ join ! $ move ! (2 ∷ 5 ∷ []) $ join ! $ keep ! (0 ∷ 4 ∷ 2 ∷ 1 ∷ []) $ group ! 3 $ done !)))))))))))))))
+    let Refused-x : Type 0 = IfErr x (λ err. IsMatchError S (as_match_error err)) in
+    use0 𝓛 (raw (fact 𝓤 Refused-x)) (fact_i 𝓤 Refused-x (emp 𝓤)
+    (if_refused_reserved r x e (λ err. IsMatchError S (as_match_error err)) refused-is)) $
+    let Code-x : Type 0 = IfOk x (λ m. (m.code ≡ a.0.now) × (m.subject ≡ a1.now)) in
+    use0 𝓛 (raw (fact 𝓤 Code-x))
+    (fact_i 𝓤 Code-x (emp 𝓤) (if_found_reserved r x e (λ m. (m.code ≡ a.0.now) × (m.subject ≡ a1.now)) code-is)) $
+    join ! $
+    let Found-x : Type 0 = IfOk x (IsFound S) in use0 𝓛 (raw (fact 𝓤 Found-x))
+    (fact_i 𝓤 Found-x (emp 𝓤) (if_found_reserved r x e (IsFound S) found-is)) $ join ! $
+    move ! (4 ∷ 0 ∷ []) $ join ! $ move ! (2 ∷ 5 ∷ []) $ join ! $ keep ! (0 ∷ 4 ∷ 2 ∷ 1 ∷ []) $ group ! 3 $ done
+    !)))))))))))))))

@@ -6,7 +6,8 @@ use Rattle.pcre2_api.proofs.code.Code.search.Goals as goal
 
 pub returns-clause-plain : goal.returns-clause-plain
 returns-clause-plain g c =
-    forward_law (search_of c.args.self.now c.args.options.now c.args.subject.now c.args.start (g.C.Callouts.answers c.args.calls.now))
+    forward_law (search_of c.args.self.now c.args.options.now c.args.subject.now c.args.start
+    (g.C.Callouts.answers c.args.calls.now))
     (record { text = begun-text _ _ _ c.requires.begun c.requires.short; begun = begun-place _ _ _ c.requires.begun })
 
 pub search_by-requires-clause-search : goal.search_by-requires-clause-search

@@ -16,10 +16,15 @@ returns-in-Some c =
     let name = c.args.name.now in
     let es = c.names-names.result.now in
     let told : es ≡ f.code.tree.names = c.names-names.ensures ∙ ap (λ g. g.code.tree.names) c.self.view_is in
-    let kept : named_of f name ≡ first_named f name (drop c.loop-i.i es) = subst (λ xs. named_of f name ≡ first_named f name (drop c.loop-i.i xs)) (sym told) c.loop-i.invariant in
-    let same : bytes_eq (get_or es c.loop-i.i other).name name ≡ true = ap (λ x. bytes_eq x name) (sym (c.name.ensures other)) ∙ sym c.eq.ensures ∙ c.if-eq.true in
-    let set : group_of f (get_or es c.loop-i.i other).group ≡ Some c.in-Some.text.now = ap (group_of f) (sym (c.from.ensures ∙ c.group.ensures other)) ∙ sym c.group-then-eq.ensures ∙ ap option_copied c.in-Some.is in
-    sym (kept ∙ named_here f name es c.loop-i.i other c.in-Some.text.now (omega (arith, c.loop-i-test.true, c.len-i-end.ensures.is)) same set)
+    let kept : named_of f name ≡ first_named f name (drop c.loop-i.i es) =
+    subst (λ xs. named_of f name ≡ first_named f name (drop c.loop-i.i xs)) (sym told) c.loop-i.invariant in
+    let same : bytes_eq (get_or es c.loop-i.i other).name name ≡ true =
+    ap (λ x. bytes_eq x name) (sym (c.name.ensures other)) ∙ sym c.eq.ensures ∙ c.if-eq.true in
+    let set : group_of f (get_or es c.loop-i.i other).group ≡ Some c.in-Some.text.now =
+    ap (group_of f) (sym (c.from.ensures ∙ c.group.ensures other)) ∙ sym c.group-then-eq.ensures
+    ∙ ap option_copied c.in-Some.is in
+    sym (kept ∙ named_here f name es c.loop-i.i other c.in-Some.text.now
+    (omega (arith, c.loop-i-test.true, c.len-i-end.ensures.is)) same set)
 
 pub loop-i-preserved : goal.loop-i-preserved
 loop-i-preserved c =
@@ -27,14 +32,20 @@ loop-i-preserved c =
     let name = c.args.name.now in
     let es = c.names-names.result.now in
     let told : es ≡ f.code.tree.names = c.names-names.ensures ∙ ap (λ g. g.code.tree.names) c.self.view_is in
-    let kept : named_of f name ≡ first_named f name (drop c.loop-i.i es) = subst (λ xs. named_of f name ≡ first_named f name (drop c.loop-i.i xs)) (sym told) c.loop-i.invariant in
-    let later : first_named f name (drop c.loop-i.i es) ≡ first_named f name (drop (c.loop-i.i + 1) es) = elim c.if-eq.branch [
+    let kept : named_of f name ≡ first_named f name (drop c.loop-i.i es) =
+    subst (λ xs. named_of f name ≡ first_named f name (drop c.loop-i.i xs)) (sym told) c.loop-i.invariant in
+    let later : first_named f name (drop c.loop-i.i es) ≡ first_named f name (drop (c.loop-i.i + 1) es) =
+    elim c.if-eq.branch [
       | then-eq+in_default w ↦
-          let same : bytes_eq (get_or es c.loop-i.i other).name name ≡ true = ap (λ x. bytes_eq x name) (sym (c.name.ensures other)) ∙ sym c.eq.ensures ∙ w.if-eq.true in
-          let unset : group_of f (get_or es c.loop-i.i other).group ≡ None = ap (group_of f) (sym (w.from.ensures ∙ w.group.ensures other)) ∙ sym w.group-then-eq.ensures ∙ ap option_copied w.in_default.is in
+          let same : bytes_eq (get_or es c.loop-i.i other).name name ≡ true =
+          ap (λ x. bytes_eq x name) (sym (c.name.ensures other)) ∙ sym c.eq.ensures ∙ w.if-eq.true in
+          let unset : group_of f (get_or es c.loop-i.i other).group ≡ None =
+          ap (group_of f) (sym (w.from.ensures ∙ w.group.ensures other)) ∙ sym w.group-then-eq.ensures
+          ∙ ap option_copied w.in_default.is in
           named_later f name es c.loop-i.i other (omega (arith, c.loop-i-test.true, c.len-i-end.ensures.is)) same unset
       | else-eq w ↦
-          let differs : bytes_eq (get_or es c.loop-i.i other).name name ≡ false = ap (λ x. bytes_eq x name) (sym (c.name.ensures other)) ∙ sym c.eq.ensures ∙ w.if-eq.false in
+          let differs : bytes_eq (get_or es c.loop-i.i other).name name ≡ false =
+          ap (λ x. bytes_eq x name) (sym (c.name.ensures other)) ∙ sym c.eq.ensures ∙ w.if-eq.false in
           named_not f name es c.loop-i.i other (omega (arith, c.loop-i-test.true, c.len-i-end.ensures.is)) differs
     ] in
     subst (λ xs. named_of f name ≡ first_named f name (drop (c.loop-i.i + 1) xs)) told (kept ∙ later)

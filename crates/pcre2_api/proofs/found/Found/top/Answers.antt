@@ -9,7 +9,8 @@ returns-then-is_some c =
     let o = c.args.self.now.outcome in
     let seen : is_some (capture o.caps c.loop-n.n) ≡ true =
     ap (λ f. is_some (capture f.outcome.caps c.loop-n.n)) (sym c.self.view_is)
-    ∙ ap is_some (sym (capture_numbered _ c.loop-n.n c.loop-n-test.true) ∙ sym c.span.ensures) ∙ sym c.is_some.ensures ∙ c.if-is_some.true
+    ∙ ap is_some (sym (capture_numbered _ c.loop-n.n c.loop-n-test.true) ∙ sym c.span.ensures) ∙ sym c.is_some.ensures
+    ∙ c.if-is_some.true
     in
     sym (c.loop-n.invariant ∙ top_step o.caps c.loop-n.n c.loop-n-test.true ∙ rw seen refl)
 
@@ -18,7 +19,8 @@ loop-n-preserved c =
     let o = c.args.self.now.outcome in
     let unseen : is_some (capture o.caps c.loop-n.n) ≡ false =
     ap (λ f. is_some (capture f.outcome.caps c.loop-n.n)) (sym c.self.view_is)
-    ∙ ap is_some (sym (capture_numbered _ c.loop-n.n c.loop-n-test.true) ∙ sym c.span.ensures) ∙ sym c.is_some.ensures ∙ c.if-is_some.false
+    ∙ ap is_some (sym (capture_numbered _ c.loop-n.n c.loop-n-test.true) ∙ sym c.span.ensures) ∙ sym c.is_some.ensures
+    ∙ c.if-is_some.false
     in
     c.loop-n.invariant ∙ top_step o.caps c.loop-n.n c.loop-n-test.true ∙ rw unseen refl
 

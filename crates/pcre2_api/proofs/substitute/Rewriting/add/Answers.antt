@@ -14,6 +14,11 @@ returns-in_err-expand_into-clause-refused c =
     let f = c.args.found.now in
     let e = c.in_err-expand_into.field-0.0 in
     let same = taken-same f r.code.now r.subject.now c.requires.code c.requires.subject in
-    let refused = subst (λ (m : Matched). expansions.Refuses (expansion (rules_of r.how.unset_empty r.how.unknown_unset) m r.plan.now) e) same c.in_err-expand_into.ensures.refused in
-    let p = err_from_is_err_and c.from_residual-in_err-expand_into.result c.from_residual-in_err-expand_into.ensures.1 in
-    rw (p.1, p.2) (refuses-added (kept r.how (slice_range r.subject.now c.args.from f.outcome.keep)) (replacement_of (work_of r) f.outcome) e refused)
+    let refused =
+    subst (λ (m : Matched). expansions.Refuses
+    (expansion (rules_of r.how.unset_empty r.how.unknown_unset) m r.plan.now) e) same
+    c.in_err-expand_into.ensures.refused in
+    let p = err_from_is_err_and c.from_residual-in_err-expand_into.result c.from_residual-in_err-expand_into.ensures.1
+    in
+    rw (p.1, p.2) (refuses-added (kept r.how (slice_range r.subject.now c.args.from f.outcome.keep))
+    (replacement_of (work_of r) f.outcome) e refused)

@@ -14,7 +14,8 @@ returns-then-has_below c =
     let unrefused : is_among name refused ≡ false = cc (c.if-is_among.ensures, c.as_slice.ensures) in
     let known : is_among name others ≡ false = cc (c.if-is_among-2.ensures, c.as_slice-else-is_among.ensures) in
     let free : is_file name files ≡ false = cc (c.if-has_file.ensures, c.as_slice-else-is_among-2.ensures.value) in
-    let has : list_any (λ (f : File). is_some (below name f.name)) files ≡ true = cc (c.if-has_below.ensures, c.as_slice-else-has_file.ensures.value) in
+    let has : list_any (λ (f : File). is_some (below name f.name)) files ≡ true =
+    cc (c.if-has_below.ensures, c.as_slice-else-has_file.ensures.value) in
     sym (kind-held files refused others c.args.self.now.closed name true unrefused known free has)
 
 pub returns-else-has_below : goal.returns-else-has_below
@@ -26,5 +27,6 @@ returns-else-has_below c =
     let unrefused : is_among name refused ≡ false = cc (c.if-is_among.ensures, c.as_slice.ensures) in
     let known : is_among name others ≡ false = cc (c.if-is_among-2.ensures, c.as_slice-else-is_among.ensures) in
     let free : is_file name files ≡ false = cc (c.if-has_file.ensures, c.as_slice-else-is_among-2.ensures.value) in
-    let has : list_any (λ (f : File). is_some (below name f.name)) files ≡ false = cc (c.if-has_below.ensures, c.as_slice-else-has_file.ensures.value) in
+    let has : list_any (λ (f : File). is_some (below name f.name)) files ≡ false =
+    cc (c.if-has_below.ensures, c.as_slice-else-has_file.ensures.value) in
     sym (kind-held files refused others c.args.self.now.closed name false unrefused known free has)

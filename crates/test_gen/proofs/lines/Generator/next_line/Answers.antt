@@ -6,7 +6,11 @@ use Rattle.test_gen.proofs.lines.Generator.next_line.Goals as goal
 pub loop-letter-init : goal.loop-letter-init
 loop-letter-init c =
     let x = c.args.self.now.x in
-    record { line = c.new-line.ensures.items ∙ sym (letters-none x); len = ap length c.new-line.ensures.items; x = sym (behind-none x) }
+    record {
+      line = c.new-line.ensures.items ∙ sym (letters-none x);
+      len = ap length c.new-line.ensures.items;
+      x = sym (behind-none x);
+    }
 
 pub loop-letter-preserved : goal.loop-letter-preserved
 loop-letter-preserved c =
