@@ -13,3 +13,4 @@ pub mod SpanLemmas
 pub mod Placing
 pub mod LeadingStable
 pub mod LeadingLemmas
+pub mod EndingLemmas

@@ -1,5 +1,5 @@
 // The lengths of a pattern's parts as branches of lookbehinds.
-ghost use Rattle.std.specs.Prelude.{◌≡◌, ℕ, suc, ◌+◌, ◌<◌, ◌||◌, true, if◌then◌else◌, All, List, [], IfOk, length};
+ghost use Rattle.std.specs.Prelude.{◌≡◌, ℕ, suc, ◌+◌, ◌<◌, ◌||◌, true, false, if◌then◌else◌, All, List, [], IfOk, length};
 ghost use Rattle.std.specs.List.{list_any};
 ghost use Rattle.pat_tree.specs.Nested.{Nested, trees, tree_at, nest};
 ghost use Rattle.pat_tree.specs.Parts.{tree_of};
@@ -7,11 +7,12 @@ ghost use Rattle.pat_tree.specs.Rules.{kids_of, asserted_by, is_test};
 ghost use Rattle.pat_lengths.specs.Backs.{AreBranches};
 ghost use Rattle.pat_lengths.specs.Lengths as lengths;
 ghost use Rattle.pat_lengths.specs.Nodes.{is_accept, nodes_outside_lookarounds};
-ghost use Rattle.pat_lengths.specs.Passing.{IsGroupTable, flagged, place_of};
+ghost use Rattle.pat_lengths.specs.Passing.{IsGroupTable, flagged, passes_at, place_of};
 ghost use Rattle.pat_lengths.specs.Rounds.{KeepAnswers};
 ghost use Rattle.pat_lengths.specs.Spans.{AreBehind, KeepAccepts, kept, span_at, span_in};
 
 use crate::accepts::is_accept;
+use crate::endings::endings_of;
 use crate::groups::Groups;
 use crate::kids::{has_flag, some_kid};
 use crate::leading::comes_back;
@@ -62,29 +63,55 @@ fn leads_back(alloc: Global, tree: &Tree, groups: &Groups) -> Result<Vec<bool>, 
         (n : ℕ) → flagged back.items n ≡ lengths.leads_back (tree_of tree.now) n) }
 {
     let names = node_answers(alloc, tree, Question::Names, &[])?;
+    let ending = endings_unless(alloc, tree, groups, !names[tree.root() as usize])?;
     let mut back = Vec::with_capacity(alloc, groups.places.len())?;
     for target in 0..groups.places.len() {
-        back.push(leads_to_itself(alloc, tree, groups, &names, target)?)?;
+        back.push(leads_to_itself(alloc, tree, groups, &names, &ending, target)?)?;
     }
     Ok(back)
 }
 
-/// Whether a group leads back to itself, where it is known which nodes name groups. One that names no other leads
-/// nowhere, and needs no search.
+/// From which nodes each way ends. Nothing is told of a pattern that names no groups.
+fn endings_unless(
+    alloc: Global,
+    tree: &Tree,
+    groups: &Groups,
+    is_plain: bool,
+) -> Result<Vec<bool>, Memory>
+    requires { IsGroupTable (trees tree.now.nodes) tree.now.root (tree_of tree.now) groups.now }
+    ensures { IfOk result (λ ending. (n : ℕ)
+        → passes_at ending.items (place_of groups.now.places.items n) ≡ true
+        → lengths.leads_back (tree_of tree.now) n ≡ false) }
+{
+    if is_plain {
+        return Ok(Vec::new(alloc));
+    }
+    endings_of(alloc, tree, groups)
+}
+
+/// Whether a group leads back to itself, where it is known which nodes name groups, and from which each way ends. One
+/// that names no other leads nowhere, and needs no search.
 fn leads_to_itself(
     alloc: Global,
     tree: &Tree,
     groups: &Groups,
     names: &[bool],
+    ending: &[bool],
     target: usize,
 ) -> Result<bool, Memory>
     requires table { IsGroupTable (trees tree.now.nodes) tree.now.root (tree_of tree.now)
         groups.now }
     requires count { length names.now ≡ tree.now.root + 1 }
     requires kept { KeepAnswers Question.Names [] (trees tree.now.nodes) names.now }
+    requires ending { passes_at ending.now (place_of groups.now.places.items target) ≡ true
+        → lengths.leads_back (tree_of tree.now) target ≡ false }
     ensures { IfOk result (λ back. back ≡ lengths.leads_back (tree_of tree.now) target) }
 {
-    if !flag_at(names, place_at(&groups.places, target)) {
+    let place = place_at(&groups.places, target);
+    if !flag_at(names, place) {
+        return Ok(false);
+    }
+    if flag_at(ending, place) {
         return Ok(false);
     }
     comes_back(alloc, tree, groups, target)

@@ -6,6 +6,7 @@ mod accepts;
 mod backs;
 mod behind;
 mod counts;
+mod endings;
 mod groups;
 mod kids;
 mod laws;

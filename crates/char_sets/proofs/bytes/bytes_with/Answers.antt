@@ -14,5 +14,6 @@ loop-b-preserved c k l =
           ap (λ s. get_or s k false) w.bytes-is ∙ w.insert.ensures k ∙ ap (λ x. x || k == b) before
           ∙ one_more test b k (sym c.has_prop.ensures ∙ w.if-has_prop.true)
       | else-has_prop w ↦
-          ap (λ s. get_or s k false) w.bytes-is ∙ before ∙ none_more test b k (sym c.has_prop.ensures ∙ w.if-has_prop.false)
+          ap (λ s. get_or s k false) w.bytes-is ∙ before ∙ none_more test b k
+          (sym c.has_prop.ensures ∙ w.if-has_prop.false)
     ]
