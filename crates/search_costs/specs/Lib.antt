@@ -1,0 +1,4 @@
+pub mod Tasks
+pub mod Costs
+pub mod CostLaw
+pub mod CountLaw
