@@ -4,7 +4,8 @@ use Rattle.ordered_search.specs.Stream.{State, VerbEnding, Ending, exhausted, by
 use Rattle.ordered_search.specs.Stream.{How, note, state, step, Stream, Search, ends, ◌▸◌, ◌or_else◌, each}
 use Rattle.ordered_search.specs.Setting.{Setting}
 use Rattle.ordered_search.specs.PlaceAnswer.{MatchLimit, FrameLimit, answers}
-use Rattle.ordered_search.specs.Moves.{Moves, stops, pause, noted, found, stepped, Follow, Handler, before, at_end, at_verbs, tread}
+use Rattle.ordered_search.specs.Moves.{Moves, stops, pause, noted, found, stepped, Follow, Handler, before, at_end}
+use Rattle.ordered_search.specs.Moves.{at_verbs, tread}
 use Rattle.ordered_search.proofs.Late.{LateEnd, Late}
 use Rattle.search_paths.specs.Pauses.{strip}
 use Rattle.search_paths.proofs.Streams.{before_or_else}
