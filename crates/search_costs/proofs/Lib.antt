@@ -5,3 +5,6 @@ pub mod Onward
 pub mod KeptTasks
 pub mod CostLaw
 pub mod CountLaw
+pub mod Silent
+pub mod LedPaths
+pub mod RecallLaw

@@ -2,3 +2,5 @@ pub mod Tasks
 pub mod Costs
 pub mod CostLaw
 pub mod CountLaw
+pub mod Led
+pub mod RecallLaw

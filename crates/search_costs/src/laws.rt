@@ -1,6 +1,7 @@
 //! The laws.
 ghost use Rattle.search_costs.specs.CostLaw.{CostLaw};
 ghost use Rattle.search_costs.specs.CountLaw.{CountLaw};
+ghost use Rattle.search_costs.specs.RecallLaw.{RecallLaw};
 
 /// Two searches that have the same left to do at one place, by the same key, fail after the same
 /// Steps and hold as many units at most, whatever they have captured and however they came there.
@@ -12,4 +13,10 @@ pub fn failures_cost_the_same()
 /// are counted and what is left behind it follows, and else the limit that it passes is the answer.
 pub fn failures_are_counted()
     ensures { CountLaw }
+{}
+
+/// The same of a machine that goes through each part before what follows it, and remembers a
+/// failure: it counts the Steps and goes back at once, or answers the limit that is passed.
+pub fn failures_are_recalled()
+    ensures { RecallLaw }
 {}
