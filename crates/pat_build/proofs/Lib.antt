@@ -13,3 +13,5 @@ pub mod Passing
 pub mod Beginning
 pub mod Checked
 pub mod Exits
+pub mod Bounded
+pub mod Refused

@@ -9,7 +9,7 @@ ghost use Rattle.pat_grammar.specs.Parts.{with_callout};
 ghost use Rattle.pat_build.specs.Stack.{IsPlain};
 ghost use Rattle.pat_build.specs.Machine.{Means, Ready, Begins, Took, Same, HasRoom, IsNext, IsQuiet, state_of};
 ghost use Rattle.pat_build.specs.Machine.{whole_of};
-ghost use Rattle.pat_grammar.specs.Places.{Refuses};
+ghost use Rattle.pat_grammar.specs.Places.{Refuses, IsListed, IsInText};
 
 use crate::machine::Machine;
 use pat_grammar::callouts::{AUTOMATIC, Called, NextItem, is_item};
@@ -78,6 +78,8 @@ impl<'a> Machine<'a> {
         requires { Ready (CalloutItem number text_from text_to) after self.old }
         ensures ok { OnOk result (Took self.old self.new) }
         ensures bad { IfErr result (Refuses (whole_of self.old)) }
+        ensures number { IfErr result IsListed }
+        ensures place { IfErr result (IsInText self.old.text.now) }
     {
         if self.calling {
             let called = Called {

@@ -4,7 +4,7 @@ ghost use Rattle.token_parts.specs.declared.token.Token.{Token};
 ghost use Rattle.token_parts.specs.declared.token.Token.TheVariants.{CallTo};
 ghost use Rattle.pat_grammar.specs.Parts.{with_call};
 ghost use Rattle.pat_build.specs.Machine.{Ready, Begins, Took, state_of, whole_of};
-ghost use Rattle.pat_grammar.specs.Places.{Refuses};
+ghost use Rattle.pat_grammar.specs.Places.{Refuses, IsListed, IsInText};
 
 use crate::machine::Machine;
 use pat_grammar::error::ReadError;
@@ -33,6 +33,8 @@ impl<'a> Machine<'a> {
         requires { Ready (CallTo target) after self.old }
         ensures ok { OnOk result (Took self.old self.new) }
         ensures bad { IfErr result (Refuses (whole_of self.old)) }
+        ensures number { IfErr result IsListed }
+        ensures place { IfErr result (IsInText self.old.text.now) }
     {
         let groups = self.named_by(target)?;
         match number_called(&groups, is_number(target)) {

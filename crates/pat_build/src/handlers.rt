@@ -13,7 +13,7 @@ ghost use Rattle.pat_grammar.specs.Leads.{IsWithin};
 ghost use Rattle.pat_build.specs.Stack.{IsPlain};
 ghost use Rattle.pat_build.specs.Machine.{Means, Ready, IsNext, Begins, Took, Same, HasRoom, TestsNone, Numbered};
 ghost use Rattle.pat_build.specs.Machine.{Gives, inside_from, asserting_from, tested_frame, state_of, whole_of};
-ghost use Rattle.pat_grammar.specs.Places.{Refuses};
+ghost use Rattle.pat_grammar.specs.Places.{Refuses, IsListed, IsInText};
 ghost use Rattle.pat_nodes.specs.Nodes.{form_of};
 
 use crate::faults::{
@@ -65,8 +65,11 @@ impl<'a> Machine<'a> {
 
     /// Which alternatives the group may have after a bar.
     fn barred(&self) -> Result<Bars, ReadError>
+        requires { self.now.at ≤ length self.now.text.now }
         ensures ok { IfOk result (λ bars. barred self.now.bars self.now.at ≡ Ok bars) }
         ensures bad { IfErr result (Refuses (barred self.now.bars self.now.at)) }
+        ensures number { IfErr result IsListed }
+        ensures place { IfErr result (IsInText self.now.text.now) }
     {
         match self.bars {
             Bars::Free => Ok(Bars::Free),
@@ -81,6 +84,8 @@ impl<'a> Machine<'a> {
         requires { Ready Bar after self.old }
         ensures ok { OnOk result (Took self.old self.new) }
         ensures bad { IfErr result (Refuses (whole_of self.old)) }
+        ensures number { IfErr result IsListed }
+        ensures place { IfErr result (IsInText self.old.text.now) }
     {
         let bars = self.barred()?;
         let groups = self.groups;
@@ -172,6 +177,8 @@ impl<'a> Machine<'a> {
         requires { Ready KeepOut after self.old }
         ensures ok { OnOk result (Took self.old self.new) }
         ensures bad { IfErr result (Refuses (whole_of self.old)) }
+        ensures number { IfErr result IsListed }
+        ensures place { IfErr result (IsInText self.old.text.now) }
     {
         if self.looking {
             return Err(self.fault(KEEP_OUT_IN_LOOKAROUND));
@@ -320,6 +327,8 @@ impl<'a> Machine<'a> {
         requires { Ready Close after self.old }
         ensures ok { OnOk result (Took self.old self.new) }
         ensures bad { IfErr result (Refuses (whole_of self.old)) }
+        ensures number { IfErr result IsListed }
+        ensures place { IfErr result (IsInText self.old.text.now) }
     {
         let Some(
             Frame {
@@ -369,6 +378,8 @@ impl<'a> Machine<'a> {
         requires next { IsNext (Quantifier min max mode) after self.old }
         ensures ok { OnOk result (Took self.old self.new) }
         ensures bad { IfErr result (Refuses (whole_of self.old)) }
+        ensures number { IfErr result IsListed }
+        ensures place { IfErr result (IsInText self.old.text.now) }
     {
         let at = self.at;
         let Some(atom) = self.waiting else {

@@ -13,5 +13,5 @@ mod tokens;
 mod verbs;
 
 pub use laws::worked_rows;
-pub use pat_grammar::ReadError;
+pub use pat_grammar::{ReadError, readings_are_bounded};
 pub use reader::read;

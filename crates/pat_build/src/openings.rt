@@ -1,5 +1,5 @@
 //! What begins a group, and what refers to one.
-ghost use Rattle.std.specs.Prelude.{◌≡◌, ◌<◌, not, ◌&&◌, [], ◌∷◌, length, slice_range, false, IfOk, OnOk, IfErr};
+ghost use Rattle.std.specs.Prelude.{◌≡◌, ◌<◌, ◌≤◌, not, ◌&&◌, [], ◌∷◌, length, slice_range, false, IfOk, OnOk, IfErr};
 ghost use Rattle.std.specs.Prelude.{None, Ok};
 ghost use Rattle.token_parts.specs.declared.token.Token.{Token};
 ghost use Rattle.token_parts.specs.declared.token.Token.TheVariants.{Open, CondStart, Reference};
@@ -12,7 +12,7 @@ ghost use Rattle.pat_grammar.specs.Groups.{has_name, is_elsewhere, number_of, op
 ghost use Rattle.pat_grammar.specs.Groups.{called_number, IsWorded, form_in, is_beyond, beyond_after, named_by};
 ghost use Rattle.pat_grammar.specs.Parts.{enters};
 ghost use Rattle.pat_build.specs.Machine.{Ready, Begins, Took, TestsNone, state_of, whole_of, known_of};
-ghost use Rattle.pat_grammar.specs.Places.{Refuses};
+ghost use Rattle.pat_grammar.specs.Places.{Refuses, IsListed, IsInText};
 ghost use Rattle.pat_nodes.specs.Nodes.{form_of, test_of};
 
 use crate::faults::{GROUPS_TOO_DEEP, NAME_IS_TAKEN, OTHER_NAME_OF_NUMBER};
@@ -48,6 +48,8 @@ impl<'a> Machine<'a> {
             (record (state_of self.old) { at = after; options = options }))) }
         ensures ok { OnOk result (Took self.old self.new) }
         ensures bad { IfErr result (Refuses (whole_of self.old)) }
+        ensures number { IfErr result IsListed }
+        ensures place { IfErr result (IsInText self.old.text.now) }
     {
         if self.stack.len() >= DEEPEST {
             return Err(self.fault(GROUPS_TOO_DEEP));
@@ -66,6 +68,8 @@ impl<'a> Machine<'a> {
         requires captures { self.old.options.no_auto_capture ≡ false }
         ensures ok { OnOk result (Took self.old self.new) }
         ensures bad { IfErr result (Refuses (whole_of self.old)) }
+        ensures number { IfErr result IsListed }
+        ensures place { IfErr result (IsInText self.old.text.now) }
     {
         if self.stack.len() >= DEEPEST {
             return Err(self.fault(GROUPS_TOO_DEEP));
@@ -100,6 +104,8 @@ impl<'a> Machine<'a> {
         requires { Ready (Open (opening.Named from to)) after self.old }
         ensures ok { OnOk result (Took self.old self.new) }
         ensures bad { IfErr result (Refuses (whole_of self.old)) }
+        ensures number { IfErr result IsListed }
+        ensures place { IfErr result (IsInText self.old.text.now) }
     {
         if self.stack.len() >= DEEPEST {
             return Err(self.fault(GROUPS_TOO_DEEP));
@@ -136,6 +142,8 @@ impl<'a> Machine<'a> {
         requires { Ready (Open opening.BranchReset) after self.old }
         ensures ok { OnOk result (Took self.old self.new) }
         ensures bad { IfErr result (Refuses (whole_of self.old)) }
+        ensures number { IfErr result IsListed }
+        ensures place { IfErr result (IsInText self.old.text.now) }
     {
         if self.stack.len() >= DEEPEST {
             return Err(self.fault(GROUPS_TOO_DEEP));
@@ -162,6 +170,8 @@ impl<'a> Machine<'a> {
         requires { Ready (Open (opening.Look ahead positive atomic)) after self.old }
         ensures ok { OnOk result (Took self.old self.new) }
         ensures bad { IfErr result (Refuses (whole_of self.old)) }
+        ensures number { IfErr result IsListed }
+        ensures place { IfErr result (IsInText self.old.text.now) }
     {
         let form = Form::Look {
             ahead,
@@ -176,6 +186,8 @@ impl<'a> Machine<'a> {
         requires { Ready (Open kind) after self.old }
         ensures ok { OnOk result (Took self.old self.new) }
         ensures bad { IfErr result (Refuses (whole_of self.old)) }
+        ensures number { IfErr result IsListed }
+        ensures place { IfErr result (IsInText self.old.text.now) }
     {
         match kind {
             OpenKind::Capture => {
@@ -242,6 +254,7 @@ impl<'a> Machine<'a> {
     fn form(&self, cond: CondText, from: usize, to: usize) -> Result<Form, ReadError>
         requires well { IsTest self.now.text.now cond }
         requires part { IsPart self.now.text.now from to }
+        requires within { self.now.at ≤ length self.now.text.now }
         ensures ok { IfOk result
             (λ form. form_in (known_of self.now).names self.now.text.now (state_of self.now) cond
             (slice_range self.now.text.now from to) ≡ Ok (form_of form)) }
@@ -250,6 +263,8 @@ impl<'a> Machine<'a> {
         ensures bad { IfErr result
             (Refuses (form_in (known_of self.now).names self.now.text.now (state_of self.now) cond
             (slice_range self.now.text.now from to))) }
+        ensures number { IfErr result IsListed }
+        ensures place { IfErr result (IsInText self.now.text.now) }
     {
         match cond {
             CondText::Group(target) => {
@@ -303,6 +318,8 @@ impl<'a> Machine<'a> {
         requires { Ready (CondStart tested.Lookaround from to) after self.old }
         ensures ok { OnOk result (Took self.old self.new) }
         ensures bad { IfErr result (Refuses (whole_of self.old)) }
+        ensures number { IfErr result IsListed }
+        ensures place { IfErr result (IsInText self.old.text.now) }
     {
         if self.stack.len() >= DEEPEST {
             return Err(self.fault(GROUPS_TOO_DEEP));
@@ -330,6 +347,8 @@ impl<'a> Machine<'a> {
         requires { Ready (CondStart cond from to) after self.old }
         ensures ok { OnOk result (Took self.old self.new) }
         ensures bad { IfErr result (Refuses (whole_of self.old)) }
+        ensures number { IfErr result IsListed }
+        ensures place { IfErr result (IsInText self.old.text.now) }
     {
         match cond {
             CondText::Lookaround => self.tested_condition(from, to, after),
@@ -351,6 +370,8 @@ impl<'a> Machine<'a> {
         requires worded { IsWorded cond }
         ensures ok { OnOk result (Took self.old self.new) }
         ensures bad { IfErr result (Refuses (whole_of self.old)) }
+        ensures number { IfErr result IsListed }
+        ensures place { IfErr result (IsInText self.old.text.now) }
     {
         if self.stack.len() >= DEEPEST {
             return Err(self.fault(GROUPS_TOO_DEEP));
@@ -369,6 +390,7 @@ impl<'a> Machine<'a> {
     #[tactic(auto, unfolding(pat_grammar::specs::Groups::named_by))]
     pub(crate) fn named_by(&self, target: Target) -> Result<GroupList, ReadError>
         requires target { IsTarget self.now.text.now target }
+        requires within { self.now.at ≤ length self.now.text.now }
         ensures ok { IfOk result
             (λ groups. named_by (known_of self.now).names self.now.text.now
             (state_of self.now) target ≡ Ok groups) }
@@ -376,6 +398,8 @@ impl<'a> Machine<'a> {
         ensures bad { IfErr result
             (Refuses (named_by (known_of self.now).names self.now.text.now
             (state_of self.now) target)) }
+        ensures number { IfErr result IsListed }
+        ensures place { IfErr result (IsInText self.now.text.now) }
     {
         let groups = u32::from(self.groups);
         match target {
@@ -399,6 +423,8 @@ impl<'a> Machine<'a> {
         requires { Ready (Reference target) after self.old }
         ensures ok { OnOk result (Took self.old self.new) }
         ensures bad { IfErr result (Refuses (whole_of self.old)) }
+        ensures number { IfErr result IsListed }
+        ensures place { IfErr result (IsInText self.old.text.now) }
     {
         let groups = self.named_by(target)?;
         self.reference(groups, after)?;

@@ -3,6 +3,7 @@ ghost use Rattle.std.specs.Prelude.{◌≡◌, ◌&&◌, not, ℕ, pos, negsuc, 
 ghost use Rattle.std.specs.Prelude.{Some, None, Ok, OnOk, IfOk, IfErr};
 ghost use Rattle.std.specs.Str.{is_utf8};
 ghost use Rattle.std.specs.Str.Lossy.{utf8_valid_len};
+ghost use Rattle.pat_tree.specs.declared.options.Options.{Options};
 ghost use Rattle.pat_tree.specs.Nested.{tree_at, trees};
 ghost use Rattle.pat_tree.specs.Refs.{refs, has_group};
 ghost use Rattle.pat_tree.specs.Growing.{AllUnder};
@@ -15,7 +16,7 @@ ghost use Rattle.pat_grammar.specs.Groups.{is_opened, places_named};
 ghost use Rattle.uni_text.specs.Characters.{IsChecked};
 ghost use Rattle.pat_grammar.specs.Reading.{read, read_from, read_with, reading, state_from};
 ghost use Rattle.pat_build.specs.Machine.{Means, HasRoom, Ends, IsGiven, Same, state_of, whole_of, tree_with};
-ghost use Rattle.pat_grammar.specs.Places.{Refuses};
+ghost use Rattle.pat_grammar.specs.Places.{Refuses, IsListed, IsInText};
 ghost use Rattle.pat_nodes.specs.Nodes.{parsed_of, references_of};
 
 use crate::faults::{NO_SUCH_GROUP, NOT_UTF8};
@@ -87,6 +88,8 @@ impl<'a> Machine<'a> {
         ensures moves { IfOk result (λ r. Moves self.now.text.now self.now.at r.0 r.1) }
         ensures well { IfOk result (λ r. IsWell self.now.text.now r.0) }
         ensures bad { IfErr result (Refuses (whole_of self.now)) }
+        ensures number { IfErr result IsListed }
+        ensures place { IfErr result (IsInText self.now.text.now) }
     {
         let cursor = self.cursor(self.at);
         match cursor.next(cursor.place, false) {
@@ -106,6 +109,8 @@ impl<'a> Machine<'a> {
             (token_at self.new.text.now (flags_of false (state_of self.new)) self.new.at
             ≡ Ok (End, self.new.at)) }
         ensures bad { IfErr result (Refuses (whole_of self.old)) }
+        ensures number { IfErr result IsListed }
+        ensures place { IfErr result (IsInText self.old.text.now) }
     {
         loop {
             let (token, after) = self.token()?;
@@ -126,6 +131,8 @@ impl<'a> Machine<'a> {
         ensures ok { IfOk result (λ id. Ends self.old self.new id) }
         ensures under { IfOk result (λ id. AllUnder self.new.draft.nodes id) }
         ensures bad { IfErr result (Refuses (whole_of self.old)) }
+        ensures number { IfErr result IsListed }
+        ensures place { IfErr result (IsInText self.old.text.now) }
     {
         self.settle(Token::End)?;
         if !self.stack.is_empty() {
@@ -164,6 +171,11 @@ impl<'a> Machine<'a> {
             → reading known text st
             ≡ Ok (tree_at (trees self.old.draft.nodes) root, state_of self.old)
             → IfErr result (Refuses (tree_with known text st)) }
+        ensures number { IfErr result IsListed }
+        ensures place { (known : Known) (text : List ℕ) (start : ℕ) (options : Options)
+            → reading known text (state_from start options)
+            ≡ Ok (tree_at (trees self.old.draft.nodes) root, state_of self.old)
+            → IfErr result (IsInText text) }
     {
         none_beyond(self.beyond)?;
         let draft = mem::replace(&mut self.draft, Draft::new(self.alloc, self.options));
@@ -211,6 +223,8 @@ fn tree_of(
     ensures bad { IfErr result
         (Refuses (tree_with (record { names = known.now; calling = calling }) text.now
         (state_from start options))) }
+    ensures number { IfErr result IsListed }
+    ensures place { IfErr result (IsInText text.now) }
 {
     let mut machine = Machine::new(alloc, known, text, start, options, calling);
     machine.run()?;
@@ -234,6 +248,8 @@ fn tree_from(
     ensures under { IfOk result (λ tree. AllUnder tree.nodes tree.root) }
     ensures turns { IfOk result (λ tree. StandInTurn tree.nodes) }
     ensures bad { IfErr result (Refuses (read_from calling text.now (state_from start options))) }
+    ensures number { IfErr result IsListed }
+    ensures place { IfErr result (IsInText text.now) }
 {
     let none: [NameEntry; 0] = [];
     let mut machine = Machine::new(alloc, &none, text, start, options, calling);
@@ -289,6 +305,8 @@ pub fn read(alloc: Global, text: &[u8], options: Options) -> Result<Tree, ReadEr
     ensures under { IfOk result (λ tree. AllUnder tree.nodes tree.root) }
     ensures turns { IfOk result (λ tree. StandInTurn tree.nodes) }
     ensures bad { IfErr result (Refuses (read options text.now)) }
+    ensures number { IfErr result IsListed }
+    ensures place { IfErr result (IsInText text.now) }
 {
     read_with(alloc, text, options, true)
 }
@@ -299,6 +317,8 @@ fn read_with(alloc: Global, text: &[u8], options: Options, calling: bool) -> Res
     ensures under { IfOk result (λ tree. AllUnder tree.nodes tree.root) }
     ensures turns { IfOk result (λ tree. StandInTurn tree.nodes) }
     ensures bad { IfErr result (Refuses (read_with calling options text.now)) }
+    ensures number { IfErr result IsListed }
+    ensures place { IfErr result (IsInText text.now) }
 {
     if text.len() > 65536 {
         return Err(ReadError::Bad {

@@ -5,7 +5,7 @@ ghost use Rattle.pat_grammar.specs.State.{passed_over};
 ghost use Rattle.pat_build.specs.Stack.{IsPlain};
 ghost use Rattle.pat_build.specs.Machine.{Means, Ready, IsNext, IsMore, IsAssertion, IsCharacter, Took, HasRoom};
 ghost use Rattle.pat_build.specs.Machine.{state_of, whole_of};
-ghost use Rattle.pat_grammar.specs.Places.{Refuses};
+ghost use Rattle.pat_grammar.specs.Places.{Refuses, IsListed, IsInText};
 
 use crate::machine::Machine;
 use pat_grammar::brackets::read_class;
@@ -35,6 +35,8 @@ impl<'a> Machine<'a> {
         requires { Ready (token.Property from to not) after self.old }
         ensures ok { OnOk result (Took self.old self.new) }
         ensures bad { IfErr result (Refuses (whole_of self.old)) }
+        ensures number { IfErr result IsListed }
+        ensures place { IfErr result (IsInText self.old.text.now) }
     {
         let name = &self.text[from..to];
         let part = property_part(name, not, self.options.ucp, self.at)?;
@@ -48,6 +50,8 @@ impl<'a> Machine<'a> {
         requires { Ready (token.ClassStart negated) after self.old }
         ensures ok { OnOk result (Took self.old self.new) }
         ensures bad { IfErr result (Refuses (whole_of self.old)) }
+        ensures number { IfErr result IsListed }
+        ensures place { IfErr result (IsInText self.old.text.now) }
     {
         let cursor = self.cursor(after);
         let (spec, end) = read_class(self.alloc, &cursor, negated)?;
@@ -67,6 +71,8 @@ impl<'a> Machine<'a> {
         requires { Ready (token.OptionSet reset on off opens) after self.old }
         ensures ok { OnOk result (Took self.old self.new) }
         ensures bad { IfErr result (Refuses (whole_of self.old)) }
+        ensures number { IfErr result IsListed }
+        ensures place { IfErr result (IsInText self.old.text.now) }
     {
         let options = with_setting(reset, on, off, self.options);
         if opens {
@@ -129,6 +135,8 @@ impl<'a> Machine<'a> {
         requires more { IsMore token }
         ensures ok { OnOk result (Took self.old self.new) }
         ensures bad { IfErr result (Refuses (whole_of self.old)) }
+        ensures number { IfErr result IsListed }
+        ensures place { IfErr result (IsInText self.old.text.now) }
     {
         match token {
             Token::Literal(_)
@@ -192,6 +200,8 @@ impl<'a> Machine<'a> {
         requires more { IsMore token }
         ensures ok { OnOk result (Took self.old self.new) }
         ensures bad { IfErr result (Refuses (whole_of self.old)) }
+        ensures number { IfErr result IsListed }
+        ensures place { IfErr result (IsInText self.old.text.now) }
     {
         match token {
             Token::Quantifier { min, max, mode } => self.quantifier(min, max, mode, after),

@@ -3,7 +3,7 @@ ghost use Rattle.std.specs.Prelude.{ℕ, IfErr, OnOk, Ok};
 ghost use Rattle.token_parts.specs.declared.token.Token.TheVariants.{VerbItem};
 ghost use Rattle.pat_grammar.specs.Parts.{with_verb};
 ghost use Rattle.pat_build.specs.Machine.{Ready, Begins, Took, state_of, whole_of};
-ghost use Rattle.pat_grammar.specs.Places.{Refuses};
+ghost use Rattle.pat_grammar.specs.Places.{Refuses, IsListed, IsInText};
 
 use crate::machine::Machine;
 use pat_grammar::error::ReadError;
@@ -44,6 +44,8 @@ impl<'a> Machine<'a> {
         requires { Ready (VerbItem kind from to) after self.old }
         ensures ok { OnOk result (Took self.old self.new) }
         ensures bad { IfErr result (Refuses (whole_of self.old)) }
+        ensures number { IfErr result IsListed }
+        ensures place { IfErr result (IsInText self.old.text.now) }
     {
         let text = self.text;
         self.begin_verb(kind, &text[from..to], after)?;

@@ -13,7 +13,7 @@ use std::test::Fail;
 /// and after ` ! ` the messages.
 type Row = &'static str;
 
-fn words_of(alloc: Global, line: &str) -> Result<Vec<String>, Fail> {
+pub(crate) fn words_of(alloc: Global, line: &str) -> Result<Vec<String>, Fail> {
     let mut words = Vec::new(alloc);
     for word in line.split(' ') {
         words.push(String::from_str(alloc, word)?)?;
@@ -21,7 +21,7 @@ fn words_of(alloc: Global, line: &str) -> Result<Vec<String>, Fail> {
     Ok(words)
 }
 
-fn patterns_of(alloc: Global, plan: &GrepPlan) -> Result<Option<Patterns>, Fail> {
+pub(crate) fn patterns_of(alloc: Global, plan: &GrepPlan) -> Result<Option<Patterns>, Fail> {
     let mut texts = TextList::new(alloc);
     for text in plan.patterns.as_slice() {
         texts.push(ByteList::from_vec(text.bytes().to_vec(alloc)?))?;

@@ -12,6 +12,8 @@ mod scripts;
 #[cfg(test)]
 mod targets;
 #[cfg(test)]
+mod waiting;
+#[cfg(test)]
 mod words;
 #[cfg(test)]
 mod writing;

@@ -1,8 +1,9 @@
 use Rattle.std.proofs.Common.{◌∙◌, ap, sym, subst, Ok, Result}
 use Rattle.std.proofs.lemmas.Result.{err_from_is_err_and}
+use Rattle.std.proofs.lemmas.Str.{utf8_valid_len_le}
 use Rattle.token_parts.specs.declared.fault.Fault.{Fault}
 use Rattle.pat_grammar.specs.Reading.{Parsed, read_with, state_from}
-use Rattle.pat_grammar.specs.Places.{Refuses}
+use Rattle.pat_grammar.specs.Places.{Refuses, IsInText}
 use Rattle.pat_build.proofs.Exits.{read_long, read_literal, read_literal_bad, start_refuses, utf_refuses, read_good}
 use Rattle.pat_build.proofs.reader.read_with.Goals as goal
 
@@ -49,3 +50,15 @@ returns-in_err-in_utf8-2-clause-bad c =
     (state_from c.in_ok-start.start c.in_ok-start.begun) c.in_ok-start.ensures.ok c.in_err-in_utf8-2.ensures.why in
     rw (p.1, p.2) (subst (λ e. Refuses (read_with c.args.calling c.args.options c.args.text.now) e)
     (sym c.in_err-in_utf8-2.ensures.bad) is)
+
+pub returns-in_err-in_utf8-clause-place : goal.returns-in_err-in_utf8-clause-place
+returns-in_err-in_utf8-clause-place c =
+    let p = err_from_is_err_and c.from_residual.result c.from_residual.ensures.1 in
+    rw (p.1, p.2) (subst (IsInText c.args.text.now) (sym c.in_err-in_utf8.ensures.bad)
+    (utf8_valid_len_le c.args.text.now))
+
+pub returns-in_err-in_utf8-2-clause-place : goal.returns-in_err-in_utf8-2-clause-place
+returns-in_err-in_utf8-2-clause-place c =
+    let p = err_from_is_err_and c.from_residual-in_err-in_utf8-2.result c.from_residual-in_err-in_utf8-2.ensures.1 in
+    rw (p.1, p.2) (subst (IsInText c.args.text.now) (sym c.in_err-in_utf8-2.ensures.bad)
+    (utf8_valid_len_le c.args.text.now))

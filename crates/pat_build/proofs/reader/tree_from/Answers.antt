@@ -105,3 +105,11 @@ returns-clause-bad c =
     ∙ ap (λ (names : List NameEntry). tree_with (record { names = names; calling = calling }) text st)
     (ap (λ d. d.names) (sym c.replace-first.ensures.value) ∙ sym c.names.ensures) in
     subst (λ (r : Result Parsed Fault). IfErr c.tree_of.result (Refuses r)) (sym from) c.tree_of.ensures.bad
+
+pub returns-then-is_nameless-clause-place : goal.returns-then-is_nameless-clause-place
+returns-then-is_nameless-clause-place c =
+    let made = c.new-machine.ensures in
+    let same = c.in_ok-run.ensures.same in
+    let ends = c.in_ok-root.ensures.ok in
+    c.finish.ensures.place (record { names = []; calling = c.args.calling }) c.args.text.now c.args.start c.args.options
+    (sym made.whole ∙ sym same.whole ∙ ends.is)

@@ -49,3 +49,12 @@ returns-clause-bad c =
     c.finish.ensures.bad (record { names = c.args.known.now; calling = c.args.calling }) c.args.text.now
     (state_from c.args.start c.args.options)
     (sym made.whole ∙ sym same.whole ∙ ends.is)
+
+pub returns-clause-place : goal.returns-clause-place
+returns-clause-place c =
+    let made = c.new-machine.ensures in
+    let same = c.in_ok-run.ensures.same in
+    let ends = c.in_ok-root.ensures.ok in
+    c.finish.ensures.place (record { names = c.args.known.now; calling = c.args.calling }) c.args.text.now
+    c.args.start c.args.options
+    (sym made.whole ∙ sym same.whole ∙ ends.is)

@@ -2,6 +2,7 @@ use Rattle.std.proofs.lemmas.Result.{err_from_is_err_and}
 use Rattle.token_parts.specs.declared.token.Token.TheVariants.{ClassStart}
 use Rattle.pat_build.specs.Machine.{state_of}
 use Rattle.pat_build.proofs.Waiting.{class_refuses, class_begins}
+use Rattle.pat_build.proofs.Refused.{class_number, class_place}
 use Rattle.pat_build.proofs.machine.Machine.class_start.Goals as goal
 
 pub returns-in_err-spec-clause-bad : goal.returns-in_err-spec-clause-bad
@@ -27,3 +28,14 @@ class-requires-clause-ready c =
           is.place is.options is.groups c.in_ok-spec.spec c.in_ok-spec.end
           (λ n h. c.in_ok-spec.ensures.class (state_of m) n h),
     )
+
+pub returns-in_err-spec-clause-number : goal.returns-in_err-spec-clause-number
+returns-in_err-spec-clause-number c =
+    let p = err_from_is_err_and c.from_residual.result c.from_residual.ensures.1 in
+    rw (p.1, p.2) (class_number c.in_err-spec.field-0.0 c.in_err-spec.ensures.number)
+
+pub returns-in_err-spec-clause-place : goal.returns-in_err-spec-clause-place
+returns-in_err-spec-clause-place c =
+    let p = err_from_is_err_and c.from_residual.result c.from_residual.ensures.1 in
+    rw (p.1, p.2) (rw (c.cursor-cursor.ensures.text)
+    at (class_place c.cursor-cursor.result.text.now c.in_err-spec.field-0.0 c.in_err-spec.ensures.place))
