@@ -1,5 +1,5 @@
 -- From which nodes each way by children, calls and references ends.
-use Rattle.std.proofs.Common.{◌≡◌, ◌∙◌, ◌⊎◌, ℕ, zero, suc, ◌+◌, ◌<◌, ◌≤◌, ◌||◌, ◌&&◌, ◌==◌, Bool, true, false, List}
+use Rattle.std.proofs.Common.{◌≡◌, ◌∙◌, ◌⊎◌, ℕ, zero, suc, ◌+◌, ◌<◌, ◌≤◌, ◌&&◌, ◌==◌, Bool, true, false, List}
 use Rattle.std.proofs.Common.{[], ◌∷◌, ◌++◌, All, length, replicate, slice_set, Option, Some, None, inl, inr, refl, sym}
 use Rattle.std.proofs.Common.{ap, subst, arith, append-nil, get_or}
 use Rattle.std.specs.List.{list_all, list_any}
@@ -13,7 +13,7 @@ use Rattle.pat_tree.specs.Groups.{group_of}
 use Rattle.pat_tree.specs.Nested.{Nested, nest, tree_at}
 use Rattle.pat_tree.specs.Rules.{kids_of, number_in, asserted_by, is_test}
 use Rattle.pat_lengths.specs.Endings.{AreEnding, EndsAt}
-use Rattle.pat_lengths.specs.Leading.{names_of, places_of, under_node}
+use Rattle.pat_lengths.specs.Leading.{names_of, places_of}
 use Rattle.pat_lengths.specs.Lengths.{leads_back}
 use Rattle.pat_lengths.specs.Passing.{flagged, IsAt, passes_at, place_of}
 use Rattle.pat_lengths.proofs.LeadingLemmas.{all_in, kids_none, nowhere, under_is}

@@ -14,3 +14,4 @@ pub mod Placing
 pub mod LeadingStable
 pub mod LeadingLemmas
 pub mod EndingLemmas
+pub mod PlainLemmas

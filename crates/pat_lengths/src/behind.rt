@@ -9,7 +9,7 @@ ghost use Rattle.pat_lengths.specs.Lengths as lengths;
 ghost use Rattle.pat_lengths.specs.Nodes.{is_accept, nodes_outside_lookarounds};
 ghost use Rattle.pat_lengths.specs.Passing.{IsGroupTable, flagged, passes_at, place_of};
 ghost use Rattle.pat_lengths.specs.Rounds.{KeepAnswers};
-ghost use Rattle.pat_lengths.specs.Spans.{AreBehind, KeepAccepts, kept, span_at, span_in};
+ghost use Rattle.pat_lengths.specs.Spans.{AreBehind, KeepAccepts, KeepSpans, kept, span_at, span_in};
 
 use crate::accepts::is_accept;
 use crate::endings::endings_of;
@@ -18,7 +18,7 @@ use crate::kids::{has_flag, some_kid};
 use crate::leading::comes_back;
 use crate::lengths::spans_of;
 use crate::passing::has_any_length;
-use crate::rounds::{Question, flag_at, node_answers};
+use crate::rounds::{Question, flag_at, names_groups, node_answers};
 use crate::spans::{Span, any_length, is_same};
 use pat_tree::{Memory, Node, NodeId, Tree};
 use std::alloc::Global;
@@ -32,12 +32,35 @@ pub fn branch_spans(
     requires { IsGroupTable (trees tree.now.nodes) tree.now.root (tree_of tree.now) groups.now }
     ensures { IfOk result (λ spans. AreBranches tree.now spans.items) }
 {
-    let any = has_any_length(tree, groups);
+    let spans = settled_spans(alloc, tree, groups, has_any_length(tree, groups))?;
+    let accepts = accepts_of(alloc, tree)?;
+    freed(alloc, &spans, &accepts)
+}
+
+/// The lengths of each part, ACCEPT apart. Where no group is named, the groups' lengths don't count.
+fn settled_spans(
+    alloc: Global,
+    tree: &Tree,
+    groups: &Groups,
+    any: bool,
+) -> Result<Vec<Option<Span>>, Memory>
+    requires table { IsGroupTable (trees tree.now.nodes) tree.now.root (tree_of tree.now)
+        groups.now }
+    requires any { any ≡ (tree.now.options.match_unset_backref || groups.now.shared) }
+    ensures count { IfOk result (λ spans. length spans.items ≡ tree.now.root + 1) }
+    ensures kept { IfOk result (λ spans.
+        KeepSpans (lengths.lengths tree.now.options.match_unset_backref (tree_of tree.now)
+        (lengths.behind tree.now.options.match_unset_backref (tree_of tree.now)
+        (suc groups.now.count))) (trees tree.now.nodes) spans.items) }
+{
+    if !names_groups(tree) {
+        let spans = spans_of(alloc, tree, any, &[])?;
+        return Ok(spans);
+    }
     let back = leads_back(alloc, tree, groups)?;
     let of_groups = settled(alloc, tree, groups, any, &back)?;
     let spans = spans_of(alloc, tree, any, &of_groups)?;
-    let accepts = accepts_of(alloc, tree)?;
-    freed(alloc, &spans, &accepts)
+    Ok(spans)
 }
 
 /// Of each part the lengths, or any where it is freed.
@@ -63,30 +86,12 @@ fn leads_back(alloc: Global, tree: &Tree, groups: &Groups) -> Result<Vec<bool>, 
         (n : ℕ) → flagged back.items n ≡ lengths.leads_back (tree_of tree.now) n) }
 {
     let names = node_answers(alloc, tree, Question::Names, &[])?;
-    let ending = endings_unless(alloc, tree, groups, !names[tree.root() as usize])?;
+    let ending = endings_of(alloc, tree, groups)?;
     let mut back = Vec::with_capacity(alloc, groups.places.len())?;
     for target in 0..groups.places.len() {
         back.push(leads_to_itself(alloc, tree, groups, &names, &ending, target)?)?;
     }
     Ok(back)
-}
-
-/// From which nodes each way ends. Nothing is told of a pattern that names no groups.
-fn endings_unless(
-    alloc: Global,
-    tree: &Tree,
-    groups: &Groups,
-    is_plain: bool,
-) -> Result<Vec<bool>, Memory>
-    requires { IsGroupTable (trees tree.now.nodes) tree.now.root (tree_of tree.now) groups.now }
-    ensures { IfOk result (λ ending. (n : ℕ)
-        → passes_at ending.items (place_of groups.now.places.items n) ≡ true
-        → lengths.leads_back (tree_of tree.now) n ≡ false) }
-{
-    if is_plain {
-        return Ok(Vec::new(alloc));
-    }
-    endings_of(alloc, tree, groups)
 }
 
 /// Whether a group leads back to itself, where it is known which nodes name groups, and from which each way ends. One

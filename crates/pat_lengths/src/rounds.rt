@@ -1,9 +1,10 @@
 // What is asked of each group, where its answer depends on those of the groups that it names.
-ghost use Rattle.std.specs.Prelude.{◌≡◌, ℕ, suc, ◌+◌, ◌<◌, ◌||◌, true, All, List, [], IfOk, length};
+ghost use Rattle.std.specs.Prelude.{◌≡◌, ℕ, suc, ◌+◌, ◌<◌, ◌≤◌, ◌||◌, true, false, All, List, [], IfOk, length};
 ghost use Rattle.pat_tree.specs.Groups.{group_of};
 ghost use Rattle.pat_tree.specs.Nested.{Nested, trees, tree_at, nest};
 ghost use Rattle.pat_tree.specs.Parts.{tree_of};
 ghost use Rattle.pat_tree.specs.Rules.{kids_of, asserted_by, is_test, IsOrdered};
+ghost use Rattle.pat_lengths.specs.Nodes.{named_by, named_in};
 ghost use Rattle.pat_lengths.specs.Passing.{IsAt, flagged, place_of, passes_at, ref_passes, condition_passes, passes};
 ghost use Rattle.pat_lengths.specs.Rounds.{KeepAnswers, AreRounds, answer};
 
@@ -167,5 +168,28 @@ fn node_names(node: &Node, naming: &[bool]) -> bool
         Node::Call { .. } => true,
         Node::Ref { groups, .. } => groups.len() > 0,
         _ => some_kid(node, naming),
+    }
+}
+
+/// Whether a call or a reference up to the root names a group.
+pub(crate) fn names_groups(tree: &Tree) -> bool
+    ensures { result ≡ false → (k : ℕ) → k ≤ tree.now.root
+        → named_in (tree_at (trees tree.now.nodes) k) ≡ [] }
+{
+    for id in 0..tree.root() as u64 + 1 {
+        if is_naming(tree.node(id as u32)) {
+            return true;
+        }
+    }
+    false
+}
+
+fn is_naming(node: &Node) -> bool
+    ensures { (trees : List Nested) → result ≡ false → named_by (nest trees node.now) ≡ [] }
+{
+    match node {
+        Node::Call { .. } => true,
+        Node::Ref { .. } => true,
+        _ => false,
     }
 }
