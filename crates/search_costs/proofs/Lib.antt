@@ -8,3 +8,4 @@ pub mod CountLaw
 pub mod Silent
 pub mod LedPaths
 pub mod RecallLaw
+pub mod CostRows

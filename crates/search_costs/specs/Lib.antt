@@ -4,3 +4,4 @@ pub mod CostLaw
 pub mod CountLaw
 pub mod Led
 pub mod RecallLaw
+pub mod CostRows

@@ -4,4 +4,4 @@
 
 mod laws;
 
-pub use laws::{failures_are_counted, failures_are_recalled, failures_cost_the_same};
+pub use laws::{failures_are_counted, failures_are_recalled, failures_cost_the_same, worked_rows};
