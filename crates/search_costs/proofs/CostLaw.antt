@@ -69,7 +69,8 @@ module _ (g : Setting) (whole : IsWhole g) {p : ℕ} {ks : List Key} {left : Lis
 
   same_keys : (m n : ℕ) → keys (fresh g s.place m) left' ≡ keys (fresh g s.place n) left
   same_keys m n =
-      keys_later left' left t s _ _ same_place refl (omega arith) at'.visit.begun at.visit.begun (at'.keys ∙ sym at.keys)
+      keys_later left' left t s _ _ same_place refl (omega arith) at'.visit.begun at.visit.begun
+      (at'.keys ∙ sym at.keys)
 
   -- with no more units held
   pub meets_failure : (c n : ℕ) → onward g left (holding n s) ≡ steps c exhausted → t.units ≤ n

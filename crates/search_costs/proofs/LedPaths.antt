@@ -17,7 +17,7 @@ use Rattle.search_costs.specs.Led.{task_path, Leads, to_the_end, by_task}
 use Rattle.search_costs.proofs.Silent.{IsSilent, left_behind, strip_twice, silent_each}
 
 module _ (g : Setting) where
-  strip_task : (a : Task) (s : State) (k l : Follow) (f : Moves) (h j : Handler) → IsStripped k l → AreStripped h j
+  pub strip_task : (a : Task) (s : State) (k l : Follow) (f : Moves) (h j : Handler) → IsStripped k l → AreStripped h j
       → strip (task_path g a s k f h) ≡ before (task_search g a s) l (strip f) j
   unfolding strip before task_path task_search turned
   strip_task (part d t) s k l f h j e r = (strip_paths g d t).is s k l f h j e r
@@ -32,16 +32,16 @@ module _ (g : Setting) where
       ((strip_paths g d (tree.repeat body (low - 1) (one_less high) lazily)).is s k l f h j e r)
 
   -- what follows, and what verbs lead to, without pauses
-  abbrev bare : Follow → Follow
+  abbrev pub bare : Follow → Follow
   bare k how s f = strip (k how s f)
 
-  abbrev bare_verbs : Handler → Handler
+  abbrev pub bare_verbs : Handler → Handler
   bare_verbs h v = strip (h v)
 
-  pub led_silently : {left : List Task} {k : Follow} → Leads g left k → (s : State) (f : Moves)
+  pub led_silently : {end : Follow → Type 0} {left : List Task} {k : Follow} → Leads g end left k → (s : State) (f : Moves)
       → IsSilent (onward g left s) → strip (k reached s f) ≡ left_behind (onward g left s) (strip f)
   unfolding in_order IsSilent
-  led_silently (to_the_end k) s f h = absurd h
+  led_silently (to_the_end k e) s f h = absurd h
   led_silently (by_task {a = a} {left = left} k next hand blind is led) s f h =
       ap strip (is s f)
       ∙ strip_task a s next (bare next) f hand (bare_verbs hand) (record { same = blind })

@@ -8,3 +8,7 @@ pub mod CountLaw
 pub mod Silent
 pub mod LedPaths
 pub mod RecallLaw
+pub mod QuietStreams
+pub mod QuietSearch
+pub mod SeenLaw
+pub mod CostRows

@@ -6,7 +6,7 @@ use Rattle.ordered_search.specs.Moves.{Moves, Follow, tread}
 use Rattle.search_paths.specs.Pauses.{strip}
 use Rattle.search_paths.proofs.Before.{tread_strip}
 use Rattle.search_costs.specs.Tasks.{Task, onward}
-use Rattle.search_costs.specs.Led.{Leads}
+use Rattle.search_costs.specs.Led.{Leads, IsAny}
 use Rattle.search_costs.specs.RecallLaw.{RecallLaw}
 use Rattle.search_costs.proofs.Silent.{IsSilent, left_behind, silent_fails, silent_passes, silent_short, tread_fails}
 use Rattle.search_costs.proofs.Silent.{tread_passes, tread_runs_out}
@@ -15,7 +15,7 @@ use Rattle.search_costs.proofs.Onward.{late_onward}
 use Rattle.search_costs.proofs.CostLaw.{meets_failure, extends_deep, fails_again, passes_again}
 
 -- the walk on the path is that over the stream
-tread_led : (g : Setting) (left : List Task) (k : Follow) → Leads g left k → (s : State) (f : Moves) (n : ℕ)
+tread_led : (g : Setting) (left : List Task) (k : Follow) → Leads g IsAny left k → (s : State) (f : Moves) (n : ℕ)
     → IsSilent (onward g left s) → tread g n (k reached s f) ≡ tread g n (left_behind (onward g left s) (strip f))
 tread_led g left k led s f n quiet =
     sym (tread_strip g n (k reached s f)) ∙ ap (tread g n) (led_silently g led s f quiet)

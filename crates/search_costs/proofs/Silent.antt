@@ -58,7 +58,7 @@ strip_twice (found how s x) = ap (found how s) (strip_twice x)
 module _ (w : How → Search) (l : Follow) (j : Handler)
     (bare : (how : How) (s : State) (f : Moves) → strip (l how s f) ≡ l how s f)
     (bare' : (v : VerbEnding) → strip (j v) ≡ j v) where
-  strip_before : (x : Stream) (f : Moves) → strip f ≡ f → strip (before x l f j) ≡ before x l f j
+  pub strip_before : (x : Stream) (f : Moves) → strip f ≡ f → strip (before x l f j) ≡ before x l f j
   unfolding strip before
   strip_before (ends exhausted) f e = e
   strip_before (ends (by_verb v)) f e = bare' v

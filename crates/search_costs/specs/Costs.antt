@@ -37,8 +37,8 @@ pub record IsAt (g : Setting) (p : ℕ) (ks : List Key) (left : List Task) (s : 
   pub place : s.place ≡ p
   pub keys : keys s left ≡ ks
 
--- One that stood there failed at this cost: with the most units held it took the Steps and nothing else, and didn't come
--- to the end of its own.
+-- One that stood there failed at this cost: with the most units held it took the Steps and nothing else, and didn't
+-- come to the end of its own.
 pub record IsKnown (g : Setting) (p : ℕ) (ks : List Key) (c : Cost) : Type 0 where
   pub left : List Task
   pub state : State

@@ -18,9 +18,17 @@ module _ (g : Setting) where
   task_path (turning d body low high lazily began) s k f h =
       turned (paths g d) body low high lazily began k h reached s f
 
--- The tasks are done, each before what follows it, and then anything follows.
-pub data Leads (g : Setting) : List Task → Follow → Type 0 where
-  to_the_end : (k : Follow) → Leads g [] k
+-- The tasks are done, each before what follows it, and then, at the end of its own, something follows of which this
+-- holds.
+pub data Leads (g : Setting) (end : Follow → Type 0) : List Task → Follow → Type 0 where
+  to_the_end : (k : Follow) → end k → Leads g end [] k
   by_task : {a : Task} {left : List Task} (k next : Follow) (h : Handler) → IsBlind next
-      → ((s : State) (f : Moves) → k reached s f ≡ task_path g a s next f h) → Leads g left next
-      → Leads g (a ∷ left) k
+      → ((s : State) (f : Moves) → k reached s f ≡ task_path g a s next f h) → Leads g end left next
+      → Leads g end (a ∷ left) k
+
+abbrev pub IsAny : Follow → Type 0
+IsAny k = Unit {0}
+
+-- what is left behind it is given up
+abbrev pub GivesUp : Follow → Type 0
+GivesUp k = (how : How) (s : State) (f f' : Moves) → strip (k how s f) ≡ strip (k how s f')

@@ -4,3 +4,5 @@ pub mod CostLaw
 pub mod CountLaw
 pub mod Led
 pub mod RecallLaw
+pub mod SeenLaw
+pub mod CostRows

@@ -6,7 +6,7 @@ use Rattle.ordered_search.specs.PlaceAnswer.{MatchLimit, FrameLimit, answers}
 use Rattle.ordered_search.specs.Moves.{Moves, Follow, tread}
 use Rattle.search_costs.specs.Tasks.{Task, Key, IsDeeper}
 use Rattle.search_costs.specs.Costs.{Cost, IsWhole, IsAt, IsKnown, IsExact}
-use Rattle.search_costs.specs.Led.{Leads}
+use Rattle.search_costs.specs.Led.{Leads, IsAny}
 
 -- With n Steps left, where k follows and f is left where it fails: the Steps are counted and f follows, or the limit
 -- that is passed is the answer.
@@ -20,5 +20,5 @@ pub record IsRecalled (g : Setting) (p : ℕ) (ks : List Key) (c : Cost) (s : St
 abbrev pub RecallLaw : Type 0
 RecallLaw =
     (g : Setting) (p : ℕ) (ks : List Key) (c : Cost) (left : List Task) (s : State) (n : ℕ) (k : Follow) (f : Moves)
-    → IsWhole g → IsKnown g p ks c → IsAt g p ks left s → All (IsDeeper n) left → Leads g left k
+    → IsWhole g → IsKnown g p ks c → IsAt g p ks left s → All (IsDeeper n) left → Leads g IsAny left k
     → IsRecalled g p ks c s n k f

@@ -1,9 +1,11 @@
 //! The laws.
 ghost use Rattle.search_costs.specs.CostLaw.{CostLaw};
+ghost use Rattle.search_costs.specs.CostRows.{CostRows};
 ghost use Rattle.search_costs.specs.CountLaw.{CountLaw};
 ghost use Rattle.search_costs.specs.RecallLaw.{RecallLaw};
+ghost use Rattle.search_costs.specs.SeenLaw.{SeenLaw};
 
-/// Two searches that have the same left to do at one place, by the same key, fail after the same
+/// Two searches that have the same left to do at one place, by the same keys, fail after the same
 /// Steps and hold as many units at most, whatever they have captured and however they came there.
 pub fn failures_cost_the_same()
     ensures { CostLaw }
@@ -19,4 +21,16 @@ pub fn failures_are_counted()
 /// failure: it counts the Steps and goes back at once, or answers the limit that is passed.
 pub fn failures_are_recalled()
     ensures { RecallLaw }
+{}
+
+/// A machine that went through what was left to do, and came back to what it had left behind that,
+/// has seen a failure: it knows its Steps, and that there is room where no more units are held.
+pub fn failures_are_seen()
+    ensures { SeenLaw }
+{}
+
+/// What failures cost, computed: with the last unit for which there is room, and with one more; of
+/// a turn that is over where it has taken nothing, and of one that goes on.
+pub fn worked_rows()
+    ensures { CostRows }
 {}

@@ -4,4 +4,7 @@
 
 mod laws;
 
-pub use laws::{failures_are_counted, failures_are_recalled, failures_cost_the_same};
+pub use laws::{
+    failures_are_counted, failures_are_recalled, failures_are_seen, failures_cost_the_same,
+    worked_rows,
+};
