@@ -1,9 +1,9 @@
 -- The nodes that a tree has, and how many children each takes.
-use Rattle.std.proofs.Common.{◌≡◌, ℕ, zero, suc, ◌+◌, ◌<◌, ◌≤◌, true, false, cond, List, [], ◌∷◌, ◌++◌, length, get_or, All}
+use Rattle.std.proofs.Common.{◌≡◌, ℕ, zero, suc, ◌+◌, ◌<◌, ◌≤◌, true, false, cond, List, [], ◌∷◌, ◌++◌, length, get_or}
 use Rattle.std.proofs.Common.{refl, sym, ap, ◌∙◌, arith, length-append, add-zero}
 use Rattle.pat_tree.specs.declared.nodes.Placed.{Placed}
 use Rattle.pat_tree.specs.Closing.{TakeTheLast}
-use Rattle.pat_tree.specs.Growing.{without, loose_after, loose, AllUnder, EndsIn}
+use Rattle.pat_tree.specs.Growing.{without, loose_after, loose, AllUnder}
 use Rattle.pat_tree.specs.Refs.{is_in}
 use Rattle.pat_tree.specs.Rules.{kids_of}
 

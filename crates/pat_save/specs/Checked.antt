@@ -14,7 +14,6 @@ use Rattle.pat_tree.specs.declared.nodes.SetName.TheVariants as set
 use Rattle.pat_tree.specs.declared.nodes.Part.{Part}
 use Rattle.pat_tree.specs.declared.nodes.Part.TheVariants as part
 use Rattle.pat_tree.specs.declared.nodes.ClassSpec.{ClassSpec}
-use Rattle.pat_tree.specs.declared.names.NameEntry.{NameEntry}
 use Rattle.pat_tree.specs.Closing.{StandInTurn}
 use Rattle.pat_tree.specs.Growing.{AllUnder}
 use Rattle.pat_tree.specs.Parts.{TreeParts}

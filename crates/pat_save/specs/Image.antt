@@ -1,6 +1,5 @@
 -- The image of patterns: the bytes that they are saved as.
-use Rattle.std.specs.Prelude.{◌≡◌, ℕ, Bool, true, false, List, [], ◌∷◌, ◌++◌, length, Option, Some, None, codes}
-use Rattle.std.specs.List.{flat_map}
+use Rattle.std.specs.Prelude.{ℕ, Bool, List, [], ◌∷◌, ◌++◌, length, Option, Some, None, codes}
 use Rattle.pat_tree.specs.declared.options.Options.{Options}
 use Rattle.pat_tree.specs.declared.options.Newline.{Newline}
 use Rattle.pat_tree.specs.declared.options.Newline.TheVariants as newline
@@ -50,7 +49,8 @@ bsr_place bsr.AnyCrLf = 1
 
 abbrev pub options_bytes : Options → List ℕ
 options_bytes o =
-    four_bytes (number_of (flags_of o)) ++ (newline_place o.newline ∷ bsr_place o.bsr ∷ optional four_bytes o.match_limit)
+    four_bytes (number_of (flags_of o))
+    ++ (newline_place o.newline ∷ bsr_place o.bsr ∷ optional four_bytes o.match_limit)
 
 abbrev pub text_bytes : List ℕ → List ℕ
 text_bytes text = four_bytes (length text) ++ text

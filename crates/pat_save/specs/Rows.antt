@@ -1,15 +1,12 @@
 -- Small parts of patterns for worked rows.
-use Rattle.std.specs.Prelude.{ℕ, Bool, true, false, List, [], ◌∷◌, Option, Some, None, codes}
+use Rattle.std.specs.Prelude.{ℕ, Bool, true, false, [], ◌∷◌, Option, None, codes}
 use Rattle.pat_tree.specs.declared.options.Options.{Options}
 use Rattle.pat_tree.specs.declared.options.Newline.TheVariants as newline
 use Rattle.pat_tree.specs.declared.options.Bsr.TheVariants as bsr
 use Rattle.pat_tree.specs.declared.nodes.ClassSpec.{ClassSpec}
 use Rattle.pat_tree.specs.declared.nodes.SetName.TheVariants as set
 use Rattle.pat_tree.specs.declared.nodes.Part.TheVariants as part
-use Rattle.pat_tree.specs.declared.nodes.Node.{Node}
 use Rattle.pat_tree.specs.declared.nodes.Node.TheVariants as node
-use Rattle.pat_tree.specs.declared.nodes.Placed.{Placed}
-use Rattle.pat_tree.specs.Parts.{TreeParts}
 use Rattle.pat_tree.specs.Rows.{placed, two_branches, named}
 use Rattle.pat_save.specs.declared.saved.Saved.{Saved}
 

@@ -1,5 +1,5 @@
 //! The fields of an image: numbers with the least byte first, bools, options and short texts.
-ghost use Rattle.std.specs.Prelude.{◌≡◌, ◌<◌, ◌≤◌, ◌^◌, ◌++◌, ◌∷◌, [], length, OnOk};
+ghost use Rattle.std.specs.Prelude.{◌≡◌, ◌≤◌, ◌++◌, ◌∷◌, [], length, OnOk};
 ghost use Rattle.pat_save.specs.Checked.{IsRising};
 ghost use Rattle.pat_save.specs.Fields.{counted, two_bytes, four_bytes, bit, number_of, optional, short_text};
 

@@ -215,7 +215,8 @@ fn put_verb_node(out: &mut Vec<u8>, verb: Verb) -> Result<(), Memory>
     put_verb(out, verb)
 }
 
-/// Adds a callout: its number, the places of its string, and the place and the length of the next item.
+/// Adds a callout: its number, the places of its string, and the place and the length of the next
+/// item.
 fn put_callout(
     out: &mut Vec<u8>,
     number: u8,

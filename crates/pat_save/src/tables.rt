@@ -1,9 +1,9 @@
 //! What an image has of a pattern besides its nodes: options, names and classes.
-ghost use Rattle.std.specs.Prelude.{◌≡◌, ◌≤◌, ◌++◌, ◌∷◌, [], length, All, OnOk, slice_index_or};
-ghost use Rattle.pat_save.specs.Checked.{IsClass, IsName, IsVerbName};
+ghost use Rattle.std.specs.Prelude.{◌≡◌, ◌≤◌, ◌++◌, length, All, OnOk};
 ghost use Rattle.pat_save.specs.Fields.{counted, short_text};
-ghost use Rattle.pat_save.specs.Image.{flags_of, newline_place, bsr_place, options_bytes, set_place, set_bytes, part_bytes};
-ghost use Rattle.pat_save.specs.Image.{class_bytes, name_bytes, tables_bytes};
+ghost use Rattle.pat_save.specs.Image.{flags_of, newline_place, bsr_place, options_bytes};
+ghost use Rattle.pat_save.specs.Image.{set_place, set_bytes, part_bytes, class_bytes, name_bytes};
+ghost use Rattle.pat_save.specs.Image.{tables_bytes};
 
 use crate::fields::{
     number_of, put_byte, put_number, put_optional_number, put_short, put_short_text, two_bits,
@@ -156,7 +156,8 @@ fn put_classes(out: &mut Vec<u8>, tree: &Tree) -> Result<(), Memory>
 
 fn put_verb_names(out: &mut Vec<u8>, tree: &Tree) -> Result<(), Memory>
     requires { All (λ name. length name ≤ 255) tree.now.verb_names }
-    ensures { OnOk result (out.new.items ≡ out.old.items ++ counted short_text tree.now.verb_names) }
+    ensures { OnOk result
+        (out.new.items ≡ out.old.items ++ counted short_text tree.now.verb_names) }
 {
     let count = tree.verb_names();
     put_number(out, count)?;

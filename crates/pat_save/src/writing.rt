@@ -1,7 +1,6 @@
 //! The image of saved patterns.
 ghost use Rattle.std.specs.Prelude.{◌≡◌, ◌≤◌, ◌<◌, ◌++◌, length, IfErr, IfOk, OnOk};
 ghost use Rattle.pat_save.specs.Checked.{AreChecked, IsCheckedSaved};
-ghost use Rattle.pat_save.specs.Fields.{four_bytes};
 ghost use Rattle.pat_save.specs.Image.{image_of, record_bytes, text_bytes};
 ghost use Rattle.pat_save.specs.declared.errors.SaveError.TheVariants as save;
 
@@ -52,8 +51,9 @@ fn whole_image(alloc: Global, list: &SavedList) -> Result<Vec<u8>, Memory>
     Ok(out)
 }
 
-/// The image of at most 20 checked patterns, each with a text of at most 65,536 bytes: the bytes that this crate's page lists.
-/// `TooLarge` comes exactly where these are more than 16,777,216. Want of memory may come at any list.
+/// The image of at most 20 checked patterns, each with a text of at most 65,536 bytes: the bytes
+/// that this crate's page lists. `TooLarge` comes exactly where these are more than 16,777,216. Want
+/// of memory may come at any list.
 pub fn write(alloc: Global, list: &SavedList) -> Result<Image, SaveError>
     requires { AreChecked list.now }
     ensures image { IfOk result (λ image. image ≡ image_of list.now) }

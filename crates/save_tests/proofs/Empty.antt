@@ -8,7 +8,6 @@ use Rattle.pat_tree.specs.Parts.{DraftParts, TreeParts, with_node, with_root}
 use Rattle.pat_tree.specs.Rows.{placed}
 use Rattle.pat_tree.specs.Sound.{TreeRules}
 use Rattle.pat_tree.specs.declared.nodes.Node.TheVariants as node
-use Rattle.pat_tree.specs.declared.nodes.Placed.{Placed}
 use Rattle.pat_tree.specs.declared.options.Options.{Options}
 use Rattle.pat_save.specs.Checked.{AreChecked, IsCharacter, IsChecked, IsCheckedSaved, IsClass, IsName, IsNode}
 use Rattle.pat_save.specs.Checked.{IsVerbName}
