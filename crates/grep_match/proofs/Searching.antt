@@ -332,7 +332,7 @@ module _ (plan : GrepPlan) (patterns : List Pattern) (line : List ℕ) where
   unfolding matches
   line_error x e = rw (e, matches) refl
 
-  line_one : (o : Outcome) → shows_each plan ≡ false → first_answer (limits plan) line 0 patterns ≡ found o
+  pub line_one : (o : Outcome) → shows_each plan ≡ false → first_answer (limits plan) line 0 patterns ≡ found o
       → matches plan patterns line ≡ Ok (o ∷ [])
   unfolding matches
   line_one o each e = rw (e, each, matches) refl

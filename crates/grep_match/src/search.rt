@@ -214,7 +214,7 @@ fn later(
 }
 
 // Whether each match of a line is shown.
-fn shows_each(plan: &GrepPlan) -> bool
+pub fn shows_each(plan: &GrepPlan) -> bool
     ensures { result ≡ shows_each plan.now }
 {
     mode_of(plan) == Mode::Parts && !plan.invert_match
