@@ -17,7 +17,8 @@ returns c =
     let unset = t.options.match_unset_backref in
     let whole = tree_of t in
     let any = unset || has_shared_number whole in
-    let is : c.has_any_length-any.result ≡ any = c.has_any_length-any.ensures ∙ ap (λ b. unset || b) c.requires.shared in
+    let is : c.has_any_length-any.result ≡ any = c.has_any_length-any.ensures
+    ∙ ap (λ b. unset || b) c.requires.shared in
     let can = c.in_ok-can.can.items in
     let passing = c.in_ok-passing.passing.items in
     let within : t.root < length passing = omega (arith, c.in_ok-passing.ensures.count) in
