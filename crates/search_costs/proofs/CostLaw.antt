@@ -21,7 +21,7 @@ fewer : (n m : ℕ) (x : Stream) → n ≤ m → IsTooMuch n x → IsTooMuch m x
 fewer n m x le h = let few = h.few in record { count = h.count; few = omega (arith, le, few); is = h.is }
 
 -- Tasks that go by the place alone, with another depth.
-keeps_plain : (n : ℕ) (xs : List Task) → All IsPlainTask xs → All IsPlainTask (all_deepened n xs)
+pub keeps_plain : (n : ℕ) (xs : List Task) → All IsPlainTask xs → All IsPlainTask (all_deepened n xs)
 keeps_plain n [] h = All-nil IsPlainTask
 keeps_plain n (a ∷ xs) h =
     All-cons IsPlainTask (deepened n a) (all_deepened n xs) (plain_deepened a (All-head IsPlainTask a xs h))

@@ -11,4 +11,5 @@ pub mod RecallLaw
 pub mod QuietStreams
 pub mod QuietSearch
 pub mod SeenLaw
+pub mod RunLaw
 pub mod CostRows

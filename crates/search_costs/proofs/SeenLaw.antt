@@ -6,7 +6,8 @@ use Rattle.std.proofs.lemmas.List.Elements.{All-head, All-tail}
 use Rattle.pat_tree.specs.declared.options.PartialMode.TheVariants.{Off}
 use Rattle.pat_tree.specs.Nested as tree
 use Rattle.match_items.specs.Items.{one_less}
-use Rattle.ordered_search.specs.Stream.{State, VerbEnding, Ending, exhausted, by_verb, by_halt, loop, How, reached, accepted}
+use Rattle.ordered_search.specs.Stream.{State, VerbEnding, Ending, exhausted, by_verb, by_halt, loop, How, reached}
+use Rattle.ordered_search.specs.Stream.{accepted}
 use Rattle.ordered_search.specs.Stream.{note, state, step, captured, Stream, Search, ends, ◌▸◌, ◌or_else◌, each}
 use Rattle.ordered_search.specs.Stream.{go_on}
 use Rattle.ordered_search.specs.Setting.{Setting}

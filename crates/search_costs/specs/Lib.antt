@@ -5,4 +5,5 @@ pub mod CountLaw
 pub mod Led
 pub mod RecallLaw
 pub mod SeenLaw
+pub mod RunLaw
 pub mod CostRows

@@ -4,7 +4,7 @@ use Rattle.ordered_search.specs.Stream.{State, reached}
 use Rattle.ordered_search.specs.Setting.{Setting}
 use Rattle.ordered_search.specs.Moves.{Moves, Follow, tread}
 use Rattle.search_costs.specs.Tasks.{Task, keys, IsVisit}
-use Rattle.search_costs.specs.Costs.{Cost, IsWhole, IsKnown}
+use Rattle.search_costs.specs.Costs.{IsWhole, IsKnown}
 use Rattle.search_costs.specs.Led.{Leads, GivesUp}
 
 -- The answer with n Steps left is that of what was left behind the tasks with m, whatever was left there; where they

@@ -3,6 +3,7 @@ ghost use Rattle.search_costs.specs.CostLaw.{CostLaw};
 ghost use Rattle.search_costs.specs.CostRows.{CostRows};
 ghost use Rattle.search_costs.specs.CountLaw.{CountLaw};
 ghost use Rattle.search_costs.specs.RecallLaw.{RecallLaw};
+ghost use Rattle.search_costs.specs.RunLaw.{RunLaw};
 ghost use Rattle.search_costs.specs.SeenLaw.{SeenLaw};
 
 /// Two searches that have the same left to do at one place, by the same keys, fail after the same
@@ -27,6 +28,12 @@ pub fn failures_are_recalled()
 /// has seen a failure: it knows its Steps, and that there is room where no more units are held.
 pub fn failures_are_seen()
     ensures { SeenLaw }
+{}
+
+/// A greedy repeat of one item without a maximum hands on the places that it hands on from a later
+/// place, and further ones. Where it is known to fail from there, the further ones alone are left.
+pub fn runs_share_failures()
+    ensures { RunLaw }
 {}
 
 /// What failures cost, computed: with the last unit for which there is room, and with one more; of

@@ -6,5 +6,5 @@ mod laws;
 
 pub use laws::{
     failures_are_counted, failures_are_recalled, failures_are_seen, failures_cost_the_same,
-    worked_rows,
+    runs_share_failures, worked_rows,
 };
