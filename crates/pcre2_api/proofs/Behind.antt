@@ -36,7 +36,7 @@ place_is (node.Cond test yes' no') at = refl
 place_is _ at = refl
 
 -- the places that are told are those of the nodes
-places_are : (ps : List Placed) → map (λ r. r.at) (references_of ps) ≡ places_of ps
+pub places_are : (ps : List Placed) → map (λ r. r.at) (references_of ps) ≡ places_of ps
 unfolding references_of
 places_are [] = refl
 places_are (p ∷ ps) =

@@ -1,6 +1,6 @@
 -- What a match by all ends answers, by what the start, the graph and the search say.
 use Rattle.std.proofs.Common.{◌≡◌, ℕ, Bool, true, false, ◌&&◌, not, if◌then◌else◌, nat_lt, length, Option, Some}
-use Rattle.std.proofs.Common.{None, subst}
+use Rattle.std.proofs.Common.{None, refl, subst}
 use Rattle.std.specs.Prelude.{slice_index}
 use Rattle.std.specs.Str.{is_utf8}
 use Rattle.std.specs.Str.Lossy.{utf8_valid_len}
@@ -14,6 +14,7 @@ use Rattle.dfa_drive.specs.dfa_graph.Served.{refusal, IsRefused}
 use Rattle.pcre2_api.specs.Matched.{fault_in}
 use Rattle.pcre2_errors.specs.declared.error.MatchError.{MatchError}
 use Rattle.pcre2_errors.specs.declared.error.MatchError.TheVariants as beginning
+use Rattle.pcre2_errors.specs.declared.dfa_error.DfaError.TheVariants as told
 use Rattle.pcre2_errors.specs.DfaErrors.{error_of}
 use Rattle.pcre2_api.specs.DfaMatched.{IsAnswered, IsDfaError, start_error_of}
 
@@ -28,7 +29,19 @@ module _ (g : Setting) (begun : fault_in g ≡ None) where
       dfa_answer g g.matching.dfa_shortest ≡ a → IsAnswered g a
   answered a served is = record { begun = begun; served = served; answer = is }
 
+-- Of a tree's refusals one alone is that it is too large.
+pub is_large : (e : GraphError) → error_of e ≡ told.TooLarge → e ≡ graph.TooLarge
+is_large graph.Item is = absurd cc
+is_large graph.Cond is = absurd cc
+is_large graph.TooLarge is = refl
+is_large graph.Memory is = absurd cc
+
 -- Where a match can't begin.
+
+pub never_large : (e : MatchError) → start_error_of e ≡ told.TooLarge → ⊥
+never_large (beginning.BadUtf at) is = absurd cc
+never_large beginning.BadUtfOffset is = absurd cc
+never_large _ is = absurd cc
 
 abbrev first_fault : ℕ → Bool → Bool → Bool → Option MatchError
 first_fault n past bad inside =

@@ -4,6 +4,7 @@ pub mod Admission
 pub mod Matching
 pub mod Naming
 pub mod Behind
+pub mod Faults
 pub mod Informing
 pub mod Taking
 pub mod Walking
@@ -12,6 +13,7 @@ pub mod Replacing
 pub mod Rewriting
 pub mod SubstitutionRows
 pub mod DfaMatching
+pub mod Graphs
 pub mod Needing
 pub mod Shaping
 mod LendingSteps

@@ -4,10 +4,12 @@ ghost use Rattle.std.specs.Option.{option_copied};
 ghost use Rattle.std.specs.Borrow.{sem};
 ghost use Rattle.pat_tree.specs.declared.options.PartialMode.TheVariants.{Off};
 ghost use Rattle.pcre_io.specs.declared.callouts.Block.{Block};
+ghost use Rattle.pat_tree.specs.Parts.{tree_of};
 ghost use Rattle.pat_tree.specs.Pattern.{pattern_of};
+ghost use Rattle.pat_build.specs.pat_grammar.Nesting.{nesting};
 ghost use Rattle.char_sets.specs.Table.{IsTableOf};
 ghost use Rattle.match_drive.specs.frame_board.Ready.{AreFactsOf};
-ghost use Rattle.pcre2_api.specs.Compiled.{Compiles, IsCompileError, info_of};
+ghost use Rattle.pcre2_api.specs.Compiled.{Compiles, IsCompileError, HasNumber, IsInPattern, info_of};
 ghost use Rattle.pcre2_api.specs.Patterns.{compiled};
 ghost use Rattle.pcre2_api.specs.Informs.{info_in};
 ghost use Rattle.match_drive.specs.frame_state.Room.{IsQuiet};
@@ -33,7 +35,7 @@ use crate::starts::test_start;
 use char_sets::ClassTable;
 use match_drive::{MatchAnswer, Outline, Ready, Scratch, search_by};
 use match_items::View;
-use pat_build::read;
+use pat_build::{read, readings_are_bounded};
 use pat_check::{Facts, check};
 use pat_lengths::first_refused_is_leftmost;
 use pat_needs::ByteText;
@@ -93,10 +95,14 @@ impl Code {
     pub fn compile(alloc: Global, pattern: &[u8], options: Options) -> Result<Code, CompileError>
         ensures compiled { IfOk result (Compiles options pattern.now) }
         ensures refused { IfErr result (IsCompileError (compiled options pattern.now)) }
+        ensures number { IfErr result HasNumber }
+        ensures place { IfErr result (IsInPattern pattern.now) }
     {
         let tree = read(alloc, pattern, options)?;
         // so a table and facts can be made of the tree, and its leftmost fault is that of the definition
+        // and stands in the pattern
         first_refused_is_leftmost();
+        readings_are_bounded();
         tree.is_sound();
         let classes = ClassTable::build(alloc, &tree)?;
         let facts = check(alloc, &tree, &classes)?;
@@ -346,6 +352,7 @@ impl Code {
         ensures tree { result.tree.now ≡ self.now.tree }
         ensures table { IsTableOf result.tree.now result.classes.now }
         ensures facts { AreFactsOf result.tree.now result.facts.now }
+        ensures nested { nesting (tree_of result.tree.now) ≤ 501 }
     {
         Ready {
             tree: &self.tree,

@@ -1,5 +1,7 @@
 //! A match by all ends at one place.
-ghost use Rattle.std.specs.Prelude.{◌≡◌, ◌<◌, None, IfOk, IfErr, length};
+ghost use Rattle.std.specs.Prelude.{◌≡◌, ◌<◌, None, Err, IfOk, IfErr, length};
+ghost use Rattle.pat_tree.specs.Parts.{tree_of};
+ghost use Rattle.pat_check.specs.Size.{size};
 ghost use Rattle.match_drive.specs.match_starts.Asked.{passed_over};
 ghost use Rattle.dfa_drive.specs.Agreement.{AgreeFrom};
 ghost use Rattle.pcre2_api.specs.Matched.{search_of};
@@ -41,7 +43,8 @@ impl Code {
     /// refused first, as [`Code::match_at`] refuses it; then what isn't supported, the leftmost item
     /// deciding. Captures are ignored. Without partial matching, for a pattern without verbs but FAIL,
     /// calls, callouts and atomic groups, the ends are where the other matcher could end at that place,
-    /// if its search there ends by itself. Needs a subject of fewer than 4,294,967,295 bytes.
+    /// if its search there ends by itself. It is TooLarge by the number of its nodes alone. Needs a subject of fewer
+    /// than 4,294,967,295 bytes.
     pub fn dfa_match<L: Ledger>(
         &self,
         alloc: Global,
@@ -58,6 +61,7 @@ impl Code {
             (search_of self.now options.now subject.now start passed_over)) }
         ensures agrees { IfOk result (λ f. AgreeFrom
             (search_of self.now options.now subject.now start passed_over) f.start f.ends) }
+        ensures large { result ≡ Err DfaError.TooLarge → 65536 < size (tree_of self.now.tree) }
     {
         match self.test_start(subject, start) {
             Ok(()) => self.ends_from(alloc, subject, start, options, lists, steps),
@@ -83,6 +87,7 @@ impl Code {
             (search_of self.now options.now subject.now start passed_over)) }
         ensures agrees { IfOk result (λ f. AgreeFrom
             (search_of self.now options.now subject.now start passed_over) f.start f.ends) }
+        ensures large { result ≡ Err DfaError.TooLarge → 65536 < size (tree_of self.now.tree) }
     {
         let ready = self.ready();
         let graph = Graph::build(alloc, ready.tree, ready.facts)?;

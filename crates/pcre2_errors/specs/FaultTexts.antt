@@ -1,5 +1,6 @@
 -- The texts of the faults of patterns (pcre2api, "Error codes from pcre2_compile()"): number → text.
-use Rattle.std.specs.Prelude.{ℕ, List, [], ◌∷◌, codes, ℤ, pos, negsuc, ◌==◌, find, Option, Some, None}
+use Rattle.std.specs.Prelude.{ℕ, Bool, List, [], ◌∷◌, codes, ℤ, pos, negsuc, ◌==◌, find, Option, Some, None}
+use Rattle.std.specs.List.{list_any}
 
 abbrev pub table : List (ℕ × List ℕ)
 table =
@@ -50,11 +51,15 @@ table =
     ∷ (199, codes "\\K in a lookaround")
     ∷ []
 
+-- the number is that of a fault; the one below 0 is that of a pattern that isn't UTF-8
+abbrev pub is_fault : ℤ → Bool
+is_fault (pos n) = list_any (λ row. row.0 == n) table
+is_fault (negsuc n) = n == 2
+
 abbrev pub text_in : Option (ℕ × List ℕ) → List ℕ
 text_in None = []
 text_in (Some row) = row.1
 
--- the one fault below 0 is that of a pattern that isn't UTF-8
 abbrev pub fault_text : ℤ → List ℕ
 fault_text (pos n) = text_in (find (λ row. row.0 == n) table)
 fault_text (negsuc n) = codes "invalid UTF-8 in pattern"

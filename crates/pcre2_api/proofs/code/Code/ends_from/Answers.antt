@@ -1,5 +1,6 @@
-use Rattle.std.proofs.Common.{rules, ◌≡◌, ◌∙◌, Err, IfErr, sym, ap, subst, arith}
-use Rattle.pat_tree.specs.Parts.{TreeParts}
+use Rattle.std.proofs.Common.{rules, ◌≡◌, ◌∙◌, ◌<◌, Result, Err, IfErr, sym, ap, subst, arith}
+use Rattle.pat_tree.specs.Parts.{TreeParts, tree_of}
+use Rattle.pat_check.specs.Size.{size}
 use Rattle.pat_tree.specs.declared.options.Options.{Options}
 use Rattle.match_items.specs.Subjects.{IsText, IsTextPlace}
 use Rattle.match_drive.specs.frame_board.Ready.{setting_in}
@@ -10,8 +11,14 @@ use Rattle.pcre2_errors.specs.DfaErrors.{error_of}
 use Rattle.pcre2_api.specs.DfaMatched.{IsDfaError}
 use Rattle.dfa_drive.proofs.Agreeing.{agree_from}
 use Rattle.pcre2_api.proofs.Starting.{begun-text, begun-place}
-use Rattle.pcre2_api.proofs.DfaMatching.{barred, answered}
+use Rattle.dfa_drive.specs.dfa_graph.declared.making.GraphError.TheVariants.{TooLarge}
+use Rattle.dfa_drive.specs.dfa_graph.Served.{IsRefused}
+use Rattle.pcre2_api.proofs.DfaMatching.{barred, answered, is_large}
+use Rattle.pcre2_api.proofs.Graphs.{too_large}
 use Rattle.pcre2_api.proofs.code.Code.ends_from.Goals as goal
+
+err_is : {A B : Type 0} {a b : B} → (let r : Result A B = Err a in r) ≡ Err b → a ≡ b
+err_is h = cc
 
 pub returns-in_err-graph-clause-refused : goal.returns-in_err-graph-clause-refused
 returns-in_err-graph-clause-refused g c =
@@ -20,6 +27,16 @@ returns-in_err-graph-clause-refused g c =
     let same : c.from_residual.result ≡ Err (error_of e) = search rules in
     subst (λ r. IfErr r (IsDfaError asked)) (sym same)
     (barred asked c.requires.begun e (rw c.ready-ready.ensures.tree at c.in_err-graph.ensures.refused))
+
+pub returns-in_err-graph-clause-large : goal.returns-in_err-graph-clause-large
+returns-in_err-graph-clause-large g c = λ is.
+    let e = c.in_err-graph.field-0.0 in
+    let same : c.from_residual.result ≡ Err (error_of e) = search rules in
+    let large : IsRefused (tree_of c.ready-ready.result.tree.now) TooLarge = subst
+    (IsRefused (tree_of c.ready-ready.result.tree.now)) (is_large e (err_is (sym same ∙ is)))
+    c.in_err-graph.ensures.refused in
+    subst (λ (t : TreeParts). 65536 < size (tree_of t)) c.ready-ready.ensures.tree
+    (too_large c.ready-ready.result.tree.now c.ready-ready.ensures.nested large)
 
 pub dfa_search-requires-clause-ready : goal.dfa_search-requires-clause-ready
 dfa_search-requires-clause-ready g c =
