@@ -1,6 +1,7 @@
 mod LengthLaw
 mod LeastLaw
 pub mod CountLemmas
+pub mod BackLemmas
 pub mod OrderLemmas
 pub mod OtherNodes
 pub mod PassLemmas
