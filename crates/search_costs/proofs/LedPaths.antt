@@ -38,7 +38,8 @@ module _ (g : Setting) where
   abbrev pub bare_verbs : Handler → Handler
   bare_verbs h v = strip (h v)
 
-  pub led_silently : {end : Follow → Type 0} {left : List Task} {k : Follow} → Leads g end left k → (s : State) (f : Moves)
+  pub led_silently : {end : Follow → Type 0} {left : List Task} {k : Follow} → Leads g end left k
+      → (s : State) (f : Moves)
       → IsSilent (onward g left s) → strip (k reached s f) ≡ left_behind (onward g left s) (strip f)
   unfolding in_order IsSilent
   led_silently (to_the_end k e) s f h = absurd h

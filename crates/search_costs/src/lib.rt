@@ -1,5 +1,6 @@
-//! What a failure of a search costs (docs/SPEED.md, "Hostile patterns"): where a search came to what is left to do, and
-//! what it captured on the way, changes no Step and no unit of a failure. No call here searches.
+//! What a failure of a search costs (docs/SPEED.md, "Hostile patterns"): where a search came to what
+//! is left to do, and what it captured on the way, changes no Step and no unit of a failure. No call
+//! here searches.
 #![tactic(auto)]
 
 mod laws;
