@@ -172,46 +172,22 @@ static int take_answer(const struct search *s, const struct door_answer *a, size
   return a->top < m->count ? (int)a->top + 1 : 0;
 }
 
-static int search_part(struct search *s, size_t from, size_t to, size_t start) {
+static int search_part(struct search *s, size_t from, size_t start) {
   pcre2_match_data *m = s->data;
   struct door_answer a = (s->checked ? door_match_checked : door_match)(
-      &m->own, m->subject + from, to - from, start - from, &s->asked,
+      &m->own, m->subject + from, m->subject_len - from, start - from, &s->asked,
       (struct door_pair *)m->ovector, pairs_of(m), m->mark, MARK_ROOM - 1);
-  return take_answer(s, &a, from, to);
+  return take_answer(s, &a, from, m->subject_len);
 }
 
-/* Searches the run of UTF-8 between two places, from a third one on. */
-static int search_run(struct search *s, size_t from, size_t to, size_t at, size_t start) {
-  struct search run = *s;
-  run.checked = true;
-  run.asked.notbol = run.asked.notbol || from > 0;
-  run.asked.noteol = run.asked.noteol || to < s->data->subject_len;
-  run.asked.notempty_atstart = run.asked.notempty_atstart && at == start;
-  if (to < s->data->subject_len) run.asked.partial = 0;
-  return search_part(&run, from, to, at);
-}
-
-/* A subject of PCRE2_MATCH_INVALID_UTF is searched run by run of UTF-8 (pcre2unicode, "Matching in
-   invalid UTF strings"), from the next place on where a character may begin. Empty runs behind the
-   first are passed over. */
+/* A subject of PCRE2_MATCH_INVALID_UTF is searched run by run of UTF-8. */
 static int search_runs(struct search *s, size_t from, size_t start) {
-  const uint8_t *text = s->data->subject;
-  size_t len = s->data->subject_len, at = start, to = valid_to(text, from, len);
-  while (at < len && (text[at] & 0xc0) == 0x80)
-    at++;
-  while (to < at) {
-    from = to + 1;
-    to = valid_to(text, from, len);
-  }
-  for (;; at = from) {
-    int rc = search_run(s, from, to, at, start);
-    if (rc != PCRE2_ERROR_NOMATCH) return rc;
-    do {
-      if (to >= len) return rc;
-      from = to + 1;
-      to = valid_to(text, from, len);
-    } while (from == to);
-  }
+  pcre2_match_data *m = s->data;
+  struct door_run run = {0, 0};
+  struct door_answer a =
+      door_match_runs(&m->own, m->subject + from, m->subject_len - from, start - from, &s->asked,
+                      (struct door_pair *)m->ovector, pairs_of(m), m->mark, MARK_ROOM - 1, &run);
+  return take_answer(s, &a, from + run.from, from + run.to);
 }
 
 static int finish(pcre2_match_data *m, int rc, uint32_t options) {
@@ -238,7 +214,7 @@ int pcre2_match(const pcre2_code *c, PCRE2_SPTR subject, size_t len, size_t star
   bool by_runs = c->options & PCRE2_MATCH_INVALID_UTF;
   size_t from = by_runs || !s.checked ? part_from(m, start) : 0;
   s.asked.notbol = s.asked.notbol || from > 0;
-  int rc = by_runs ? search_runs(&s, from, start) : search_part(&s, from, len, start);
+  int rc = by_runs ? search_runs(&s, from, start) : search_part(&s, from, start);
   if ((rc >= 0 || rc == PCRE2_ERROR_PARTIAL) && m->startchar > with->offset_limit)
     rc = PCRE2_ERROR_NOMATCH;
   m->rc = finish(m, rc, options);
