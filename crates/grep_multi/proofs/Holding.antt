@@ -88,7 +88,8 @@ module _ (kind : EndKind) (bytes rest : List ℕ) (p : Passed kind bytes rest) w
   pub passed-next : (k n : ℕ) → k ≡ first_newline kind rest → n ≡ newline_len kind rest k
       → has_no_row kind rest Fault k ≡ false
       → Passed kind bytes (take (length rest - (k + n)) (drop (k + n) rest))
-  passed-next k n is len whole = subst (Passed kind bytes) (sym (rest_whole rest (k + n))) (passed-more k n is len whole)
+  passed-next k n is len whole =
+      subst (Passed kind bytes) (sym (rest_whole rest (k + n))) (passed-more k n is len whole)
 
   pub passed-shorter : (k n : ℕ) → k ≡ first_newline kind rest → n ≡ newline_len kind rest k
       → has_no_row kind rest Fault k ≡ false
@@ -160,7 +161,12 @@ module _ (kind : EndKind) (bytes : List ℕ) (before after : Told) where
         input = s.input;
         hears = s.hears;
         holds = subst (λ x. Holds kind x held) is
-            (record { few = few; short = (let same = ap length text in omega (arith, same, few)); text = text; faulted = faulted });
+            (record {
+              few = few;
+              short = (let same = ap length text in omega (arith, same, few));
+              text = text;
+              faulted = faulted;
+            });
         counts = subst (λ b. CountsFault b before.faults after.faults) (sym faulted) t.takes.met.0;
         taken = consumed bytes before after phase.Ended t.takes t.room;
       }
