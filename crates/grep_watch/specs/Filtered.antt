@@ -12,8 +12,8 @@ use Rattle.grep_watch.specs.declared.filter.Filter.{Filter}
 use Rattle.grep_watch.specs.declared.filter.Known.{Known}
 use Rattle.grep_watch.specs.declared.filter.Known.TheVariants.{Nothing, NoMatch, Match}
 
--- a line in which no match of its expression begins has no match of the patterns, and where it is exact one in which one
--- begins has a match
+-- a line in which no match of its expression begins has no match of the patterns, and where it is exact one in which
+-- one begins has a match
 pub record Sifts (plan : GrepPlan) (patterns : List Pattern) (s : Sieve) : Type 0 where
   pub wider : IsWiderBy plan patterns (meaning s.program.hir) s.most s.utf
   pub exact : s.is_exact ≡ true → IsExactBy plan patterns (meaning s.program.hir) s.most s.utf
