@@ -1,22 +1,25 @@
 -- The laws of the text of a run.
 use Rattle.std.proofs.Common.{◌≡◌, sym, ap, subst, ◌∙◌, arith, ℕ, ◌<◌, Bool, true, false, if◌then◌else◌, List, []}
-use Rattle.std.proofs.Common.{length, drop, Option, None, Some, Result, Ok, Err}
+use Rattle.std.proofs.Common.{◌∷◌, ◌++◌, length, map, drop, Option, None, Some, Result, Ok, Err}
 use Rattle.pcre_io.specs.Files.{Contents}
 use Rattle.grep_args.specs.declared.plan.GrepPlan.{GrepPlan}
 use Rattle.grep_args.specs.declared.plan.HelpKind.{HelpKind}
 use Rattle.grep_args.specs.Words.{Reads, plan_of}
 use Rattle.tool_io.specs.Outcomes.{RunOutcome}
 use Rattle.grep_main.specs.Refusals.{refusal, usage_message}
+use Rattle.line_feed.specs.Rows.{Input}
 use Rattle.tool_io.specs.declared.target.Target.{Target}
-use Rattle.grep_targets.specs.Filters.{Filter, BadFilter}
-use Rattle.tool_io.specs.Asked.{Asked}
+use Rattle.tool_io.specs.declared.target.Target.TheVariants as targets
+use Rattle.grep_targets.specs.Filters.{Filter, BadFilter, filter_of}
+use Rattle.tool_io.specs.Asked.{Asked, StandFor, asked, named_target}
 use Rattle.grep_main.specs.PatternFiles.{FileTexts}
 use Rattle.grep_output.specs.InputText.{first_state}
 use Rattle.grep_main.specs.ToolText.{with_names, targets_of, text_by_help, text_by_texts, text_by_patterns}
 use Rattle.grep_main.specs.ToolText.{text_by_filter, text_of}
-use Rattle.grep_main.specs.Asks.{AsksUnless, AsksBy, asked_unless, asked_by_plan, targets_by}
+use Rattle.grep_main.specs.Asks.{Lists, MayStandFor, AsksUnless, AsksBy, asked_unless, asked_by_plan, filtered}
+use Rattle.grep_main.specs.Asks.{targets_by}
 use Rattle.grep_core.specs.grep_match.Compiled.{Compiled}
-use Rattle.grep_main.specs.Laws.{SoundEndWell, ToldAskForOne}
+use Rattle.grep_main.specs.Laws.{SoundEndWell, ToldAskForOne, NamesNoFile, NoneButStandard}
 use Rattle.grep_main.proofs.SoundInputs.{all-well}
 
 -- no input has failed
@@ -81,3 +84,33 @@ told-by (Ok plan) set first last words asked h = told-unless plan.help set first
 
 pub told-asks : ToldAskForOne
 told-asks set first last words asked h = told-by (plan_of words) set first last words asked h
+
+-- Words that name no file.
+
+alone-stands : (contents : Option Contents) (heard : Input) (given : List Asked)
+    → StandFor contents heard (targets.Input ∷ []) given → given ≡ asked targets.Input (Some heard) ∷ []
+alone-stands contents heard [] h = absurd h
+alone-stands contents heard (a ∷ []) h =
+    ap (λ (a : Asked). a ∷ []) (ap (λ t. asked t a.input) h.0 ∙ ap (λ i. asked targets.Input i) h.1)
+alone-stands contents heard (a ∷ b ∷ more) h = absurd h.2
+
+none-lists : (contents : Option Contents) (first last : ℕ) (plan : GrepPlan) (list : List Target) (filter : Filter)
+    → filter_of plan ≡ Ok filter → Lists contents first last plan [] list → list ≡ targets.Input ∷ []
+none-lists None first last plan list filter is h =
+    subst (λ f. MayStandFor f plan.recursive [] list) is h.0
+none-lists (Some set) first last plan list filter is h = h ∙ ap (λ f. filtered f plan set []) is
+
+none-asks : (contents : Option Contents) (first last : ℕ) (words : List (List ℕ)) (list : List Target)
+    (n : NamesNoFile words) → AsksUnless n.plan.help contents first last n.plan [] list → list ≡ targets.Input ∷ []
+none-asks contents first last words list n h =
+    let plan = n.plan in
+    let (found, is, lists) = subst (λ o. AsksUnless o contents first last plan [] list) n.searches h in
+    is ∙ ap (λ files. map named_target files ++ found) n.patterns
+    ∙ none-lists contents first last plan found n.filter n.filtered lists
+
+pub standard-alone : NoneButStandard
+standard-alone contents first last words heard list given n asks stand =
+    let by_plan = subst (λ r. AsksBy r contents first last words list) n.accepted asks in
+    let by_none = subst (λ files. AsksUnless n.plan.help contents first last n.plan files list) n.inputs by_plan in
+    alone-stands contents heard given
+    (subst (λ found. StandFor contents heard found given) (none-asks contents first last words list n by_none) stand)

@@ -1,13 +1,14 @@
 -- What the text of a run says in a plain case.
 use Rattle.std.specs.Prelude.{◌≡◌, ◌≢◌, ℕ, ◌<◌, ◌≤◌, List, ◌++◌, length, take, drop, map, filter, sum_by, All}
-use Rattle.std.specs.Prelude.{Option, None, Some, Ok}
+use Rattle.std.specs.Prelude.{Option, None, Some, Ok, [], ◌∷◌}
 use Rattle.pcre_io.specs.Files.{Contents}
 use Rattle.line_feed.specs.Rows.{Input, End, Long}
 use Rattle.grep_args.specs.declared.plan.GrepPlan.{GrepPlan}
 use Rattle.grep_args.specs.Words.{plan_of}
 use Rattle.tool_io.specs.declared.target.Target.{Target}
+use Rattle.tool_io.specs.declared.target.Target.TheVariants as targets
 use Rattle.grep_targets.specs.Filters.{Filter, filter_of}
-use Rattle.tool_io.specs.Asked.{Asked}
+use Rattle.tool_io.specs.Asked.{Asked, StandFor, asked}
 use Rattle.pat_tree.specs.Pattern.{Pattern}
 use Rattle.grep_core.specs.grep_match.Compiled.{patterns_of}
 use Rattle.grep_core.specs.grep_match.Matches.{tried_row, has_error}
@@ -60,3 +61,20 @@ ToldAskForOne =
     (set : Contents) (first last : ℕ) (words : List (List ℕ)) (asked : List Target)
     → AsksFor (Some set) first last words asked
     → asked ≡ asked_targets set words
+
+-- The words are accepted and name no file: neither one of patterns nor one to be searched.
+pub record NamesNoFile (words : List (List ℕ)) : Type 0 where
+  pub plan : GrepPlan
+  pub accepted : plan_of words ≡ Ok plan
+  pub searches : plan.help ≡ None
+  pub patterns : plan.pattern_files ≡ []
+  pub inputs : drop plan.files_from words ≡ []
+  pub filter : Filter
+  pub filtered : filter_of plan ≡ Ok filter
+
+-- Over any files, told or not, such a run searches standard input alone.
+abbrev pub NoneButStandard : Type 0
+NoneButStandard =
+    (contents : Option Contents) (first last : ℕ) (words : List (List ℕ)) (heard : Input) (list : List Target)
+    (given : List Asked) → NamesNoFile words → AsksFor contents first last words list
+    → StandFor contents heard list given → given ≡ asked targets.Input (Some heard) ∷ []

@@ -1,5 +1,5 @@
 //! Laws of the text of a run, and worked rows of the definitions.
-ghost use Rattle.grep_main.specs.Laws.{SoundEndWell, ToldAskForOne};
+ghost use Rattle.grep_main.specs.Laws.{NoneButStandard, SoundEndWell, ToldAskForOne};
 ghost use Rattle.grep_main.specs.Worked.{WorkedRows};
 
 /// A run of pcre2grep ends with status 0 or 1 where its words and patterns are accepted, each input
@@ -12,6 +12,12 @@ pub fn sound_runs_end_well()
 /// Over files that are told, the words of a run ask for one list of targets.
 pub fn told_words_ask_for_one_list()
     ensures { ToldAskForOne }
+{}
+
+/// Over any files, told or not, a run whose words are accepted and name no file searches standard
+/// input alone.
+pub fn words_without_files_search_standard_input()
+    ensures { NoneButStandard }
 {}
 
 /// Runs computed from the definition, each as pcre2grep has it.
