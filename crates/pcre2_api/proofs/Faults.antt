@@ -1,6 +1,6 @@
 -- The numbers and the places of the faults of patterns.
 use Rattle.std.proofs.Common.{◌≡◌, ◌⊎◌, inl, inr, ℕ, ℤ, pos, negsuc, zero, suc, ◌≤◌, Bool, true, false, ◌||◌, ◌==◌}
-use Rattle.std.proofs.Common.{nat_le, List, [], ◌∷◌, ◌++◌, length, Option, Some, None, IsTrue, Result, Ok, refl, sym}
+use Rattle.std.proofs.Common.{nat_le, nat_lt, List, [], ◌∷◌, ◌++◌, length, Option, Some, None, IsTrue, Result, Ok, refl, sym}
 use Rattle.std.proofs.Common.{ap, ◌∙◌, subst, arith}
 use Rattle.std.proofs.lemmas.Bool.Decides.{nat_tests}
 use Rattle.std.specs.List.{AllByRecursion, list_any}
@@ -20,7 +20,7 @@ use Rattle.pat_check.specs.Known.{IsCheckError}
 use Rattle.pat_check.specs.declared.facts.CheckError.{CheckError}
 use Rattle.pat_check.specs.declared.facts.CheckError.TheVariants as checking
 use Rattle.node_flow.specs.Order.{order}
-use Rattle.pat_lengths.specs.Lengths.{SomeLengths, counted, too_long, branch_fault}
+use Rattle.pat_lengths.specs.Lengths.{SomeLengths, counted, too_long, differing, too_different, branch_fault}
 use Rattle.pat_lengths.specs.Backs.{behind_branches, placed_at, fault_from, lengths_at, fault_among, fault_of_node}
 use Rattle.pat_lengths.specs.Backs.{fault_in, first_fault}
 use Rattle.pat_lengths.specs.Lookbehinds.{place_in, places_of}
@@ -82,14 +82,24 @@ long_number k n h =
       | false ↦ λ e. subst (λ k. IsTrue (is_fault (pos k))) (some_is e) refl
     ] h
 
+different_number : (k n : ℕ) → too_different k ≡ Some n → IsTrue (is_fault (pos n))
+different_number k n h =
+    elim (nat_lt k differing) as (λ b. elim b [ true ↦ (let o : Option ℕ = None in o) | false ↦ Some 125 ] ≡ Some n
+    → IsTrue (is_fault (pos n))) [
+      | true ↦ λ e. absurd cc
+      | false ↦ λ e. subst (λ k. IsTrue (is_fault (pos k))) (some_is e) refl
+    ] h
+
 most_number : (least : ℕ) (most : Option ℕ) (n : ℕ)
     → branch_fault (Some (record { least = least; most = most })) ≡ Some n → IsTrue (is_fault (pos n))
 most_number least None n h = subst (λ k. IsTrue (is_fault (pos k))) (some_is h) refl
 most_number least (Some most) n h =
-    elim (counted least == counted most) as (λ b. elim b [ true ↦ too_long (counted most) | false ↦ Some 125 ] ≡ Some
-    n → IsTrue (is_fault (pos n))) [
+    elim (counted least == counted most) as (λ b. elim b [
+      | true ↦ too_long (counted most)
+      | false ↦ too_different (counted most)
+    ] ≡ Some n → IsTrue (is_fault (pos n))) [
       | true ↦ λ e. long_number (counted most) n e
-      | false ↦ λ e. subst (λ k. IsTrue (is_fault (pos k))) (some_is e) refl
+      | false ↦ λ e. different_number (counted most) n e
     ] h
 
 branch_number : (a : SomeLengths) (n : ℕ) → branch_fault a ≡ Some n → IsTrue (is_fault (pos n))
