@@ -72,13 +72,6 @@ struct text {
   size_t len;
 };
 
-static void add(struct text *t, const char *s, size_t n) {
-  memcpy(t->bytes + t->len, s, n);
-  t->len += n;
-}
-
-static void add_text(struct text *t, const char *s) { add(t, s, strlen(s)); }
-
 /* The length of the start items of a pattern, as `(*UTF)`, each in capitals (pcre2pattern, "Special
    start-of-pattern items"). */
 static size_t start_items(const uint8_t *p, size_t len) {
@@ -120,21 +113,6 @@ static size_t start_items(const uint8_t *p, size_t len) {
   return at;
 }
 
-/* The pattern with what MATCH_WORD and MATCH_LINE stand for around it. The newline ends a comment
-   at the pattern's end. */
-static void wrap(struct text *t, const struct text *p, uint32_t extra, bool literal, bool newline) {
-  size_t before = literal ? 0 : start_items(p->bytes, p->len);
-  t->len = 0;
-  add(t, (const char *)p->bytes, before);
-  add_text(t, extra & PCRE2_EXTRA_MATCH_LINE ? "^(?:" : "\\b(?:");
-  for (size_t i = before; i < p->len; i++) {
-    if (literal && p->bytes[i] < 128 && !isalnum(p->bytes[i])) add_text(t, "\\");
-    add(t, (const char *)p->bytes + i, 1);
-  }
-  if (!literal) add_text(t, newline ? "\\E\n" : "\\E");
-  add_text(t, extra & PCRE2_EXTRA_MATCH_LINE ? ")$" : ")\\b");
-}
-
 /* A compilation under way. */
 struct making {
   struct text text;
@@ -143,13 +121,16 @@ struct making {
   struct door_fault fault;
 };
 
-/* 0, or the number of the fault or of the want of memory. */
-static int make(struct making *m, const struct text *t, uint32_t options) {
-  struct door_asked asked = asked_of(options, m->newline, m->bsr);
-  int32_t made = door_compile(t->bytes, t->len, &asked, &m->handle, &m->fault);
-  if (made == 1) return m->fault.number;
+/* What the door answered: 0, or the number of the fault or of the want of memory. */
+static int made(struct making *m, int32_t told) {
+  if (told == 1) return m->fault.number;
   m->fault.at = 0;
-  return made == 0 ? 0 : PCRE2_ERROR_HEAP_FAILED;
+  return told == 0 ? 0 : PCRE2_ERROR_HEAP_FAILED;
+}
+
+static int make(struct making *m) {
+  struct door_asked asked = asked_of(m->options, m->newline, m->bsr);
+  return made(m, door_compile(m->text.bytes, m->text.len, &asked, &m->handle, &m->fault));
 }
 
 /* Where the backslash of an unknown escape stands, of which a fault is told at the escape or right
@@ -163,7 +144,7 @@ static size_t backslash(const struct text *t, size_t at) {
 static int make_plain(struct making *m) {
   size_t left_out = 0;
   for (;;) {
-    int code = make(m, &m->text, m->options);
+    int code = make(m);
     size_t at = backslash(&m->text, m->fault.at);
     if (code != PCRE2_ERROR_UNKNOWN_ESCAPE || !(m->extra & PCRE2_EXTRA_BAD_ESCAPE_IS_LITERAL) ||
         at >= m->text.len) {
@@ -176,28 +157,24 @@ static int make_plain(struct making *m) {
   }
 }
 
-/* Compiles it with what stands around it. The pattern by itself is known to compile. */
-static int make_wrapped(struct making *m) {
-  struct text t = {get_block(&plain_memory, 2 * m->text.len + 16), 0};
-  if (!t.bytes) return PCRE2_ERROR_HEAP_FAILED;
-  bool literal = m->options & PCRE2_LITERAL;
-  uint32_t options = m->options & ~PCRE2_LITERAL;
-  wrap(&t, &m->text, m->extra, literal, false);
-  int code = make(m, &t, options);
-  if (code == PCRE2_ERROR_MISSING_CLOSING_PARENTHESIS) {
-    wrap(&t, &m->text, m->extra, literal, true);
-    code = make(m, &t, options);
-  }
-  give_block(&plain_memory, t.bytes);
+/* Compiles it with what MATCH_LINE or MATCH_WORD stands for around it. */
+static int make_around(struct making *m) {
+  struct door_asked asked = asked_of(m->options, m->newline, m->bsr);
+  bool line = m->extra & PCRE2_EXTRA_MATCH_LINE;
+  int code =
+      made(m, door_compile_around(m->text.bytes, m->text.len, &asked, line, &m->handle, &m->fault));
   if (m->fault.at > m->text.len) m->fault.at = m->text.len;
   return code;
 }
 
 static int make_all(struct making *m) {
-  int code = make_plain(m);
-  if (code || !(m->extra & WRAPPING)) return code;
-  door_free(&m->handle);
-  return make_wrapped(m);
+  if (!(m->extra & WRAPPING)) return make_plain(m);
+  if (m->extra & PCRE2_EXTRA_BAD_ESCAPE_IS_LITERAL) {
+    int code = make_plain(m);
+    if (code) return code;
+    door_free(&m->handle);
+  }
+  return make_around(m);
 }
 
 /* ---- codes ---- */

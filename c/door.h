@@ -70,6 +70,8 @@ struct door_told {
 
 int32_t door_compile(const uint8_t *pattern, size_t len, const struct door_asked *,
                      struct door_handle *, struct door_fault *);
+int32_t door_compile_around(const uint8_t *pattern, size_t len, const struct door_asked *,
+                            bool line, struct door_handle *, struct door_fault *);
 struct door_answer door_match(struct door_handle *, const uint8_t *subject, size_t len,
                               size_t start, const struct door_match_asked *,
                               struct door_pair *places, size_t n, uint8_t *mark, size_t room);

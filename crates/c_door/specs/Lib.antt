@@ -2,3 +2,4 @@ pub mod Held
 pub mod Asking
 pub mod Telling
 pub mod Runs
+pub mod Around

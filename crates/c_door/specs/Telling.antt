@@ -1,5 +1,5 @@
 -- What C is told (pcre2api, "Error return values from pcre2_match()", "Information about a compiled pattern").
-use Rattle.std.specs.Prelude.{◌≡◌, ◌⊎◌, ◌<◌, ◌≤◌, ℕ, ℤ, pos, negsuc, List, length, slice_index_or, slice_get}
+use Rattle.std.specs.Prelude.{Bool, ◌≡◌, ◌⊎◌, ◌<◌, ◌≤◌, ℕ, ℤ, pos, negsuc, List, length, slice_index_or, slice_get}
 use Rattle.std.specs.Prelude.{is_some, Option, Some, None, Result, Ok, Err}
 use Rattle.pat_tree.specs.declared.options.Newline.{Newline}
 use Rattle.pat_tree.specs.declared.options.Newline.TheVariants as newline
@@ -27,6 +27,8 @@ use Rattle.pcre2_api.specs.Matched.{MatchParts, IsFound, IsMatchError}
 use Rattle.pcre2_api.specs.Captured.{span_of, top_of, mark_of}
 use Rattle.pcre2_api.specs.DfaMatched.{IsDfaFound, IsDfaError}
 use Rattle.pcre2_api.specs.Substituted.{Refuses}
+use Rattle.pat_tree.specs.Pattern.{pattern_of}
+use Rattle.c_door.specs.Around.{compiled_around}
 use Rattle.c_door.specs.Held.{EngineValue}
 use Rattle.c_door.specs.declared.told.Fault.{Fault}
 use Rattle.c_door.specs.declared.told.Answer.{Answer}
@@ -79,6 +81,14 @@ abbrev pub IsCompiled : Options → List ℕ → ℤ → Option EngineValue → 
 IsCompiled options text code held fault =
     ((code ≡ pos 0) × IsHeld held (λ e. Compiles options text e.code.value))
     ⊎ ((code ≡ pos 1) × (held ≡ None) × IsCompileError (compiled options text) (Bad fault.number fault.at))
+    ⊎ ((code ≡ pos 2) × (held ≡ None))
+
+-- the same of a pattern of which a match is whole lines or words
+abbrev pub IsCompiledAround : Options → Bool → List ℕ → ℤ → Option EngineValue → Fault → Type 0
+IsCompiledAround options line text code held fault =
+    ((code ≡ pos 0) × IsHeld held (λ e. compiled_around options line text ≡ Ok (pattern_of e.code.value.tree)))
+    ⊎ ((code ≡ pos 1) × (held ≡ None)
+    × IsCompileError (compiled_around options line text) (Bad fault.number fault.at))
     ⊎ ((code ≡ pos 2) × (held ≡ None))
 
 -- 0 and another engine of the same code, or 2 for want of memory

@@ -2,6 +2,7 @@
 //! `libpcre2-8.so.0`.
 #![tactic(auto)]
 
+mod around;
 mod asked;
 mod engine;
 mod exports;
