@@ -1,5 +1,6 @@
 -- A line without a match error: it is selected or passed.
-use Rattle.std.proofs.Common.{◌≡◌, ◌≢◌, ◌++◌, flat_map, ℕ, ◌+◌, ◌≤◌, ◌==◌, Bool, true, false, not, ◌||◌, ◌&&◌, List, [], ◌∷◌, Option}
+use Rattle.std.proofs.Common.{◌≡◌, ◌≢◌, ◌++◌, flat_map, ℕ, ◌+◌, ◌≤◌, ◌==◌, Bool, true, false, not}
+use Rattle.std.proofs.Common.{◌||◌, ◌&&◌, List, [], ◌∷◌, Option}
 use Rattle.std.proofs.Common.{Result, Ok, Err, ℤ, refl, sym, ap, subst, ◌∙◌, arith, inl, if◌then◌else◌}
 use Rattle.std.proofs.lemmas.Bool.{cond-true, cond-false, false≢true}
 use Rattle.std.proofs.Math.Bool.{beq}
