@@ -4,18 +4,19 @@
 
 #include <ctype.h>
 #include <pthread.h>
+#include <stdatomic.h>
 #include <string.h>
 
 #define NAME_ROOM 128
 
 /* What a code shares with its match data, as long as one of them is there. A handle is in one call
- * at a time. */
+ * at a time, so another one of the code is made under the lock. */
 struct shared {
   struct memory memory;
   pthread_mutex_t lock;
   struct door_handle handle; /* of nothing once the code is freed */
-  struct door_handle spare;  /* what match data gave back, for the next */
-  size_t users;
+  _Atomic(void *) spare;     /* of the handle that match data gave back, for the next */
+  atomic_size_t users;
 };
 
 #define KNOWN_OPTIONS                                                                           \
@@ -204,7 +205,10 @@ static int make_all(struct making *m) {
 static struct shared *shared_of(const struct memory *m, struct door_handle handle) {
   struct shared *s = get_block(m, sizeof *s);
   if (!s) return NULL;
-  *s = (struct shared){.memory = *m, .handle = handle, .users = 1};
+  s->memory = *m;
+  s->handle = handle;
+  atomic_init(&s->spare, NULL);
+  atomic_init(&s->users, 1);
   if (pthread_mutex_init(&s->lock, NULL)) {
     give_block(m, s);
     return NULL;
@@ -212,12 +216,12 @@ static struct shared *shared_of(const struct memory *m, struct door_handle handl
   return s;
 }
 
-/* Ends the use of the lock by one user, the last of whom gives the block back. */
-static void unlock_last(struct shared *s) {
-  bool is_last = --s->users == 0;
-  pthread_mutex_unlock(&s->lock);
-  if (!is_last) return;
+/* Ends the use by one user, the last of whom gives the block back. */
+static void leave(struct shared *s) {
+  if (atomic_fetch_sub(&s->users, 1) > 1) return;
   struct memory m = s->memory;
+  struct door_handle spare = {atomic_load(&s->spare)};
+  if (spare.at) door_free(&spare);
   pthread_mutex_destroy(&s->lock);
   give_block(&m, s);
 }
@@ -230,33 +234,24 @@ static bool share(struct shared *s, struct door_handle *other) {
 }
 
 bool lend_handle(struct shared *s, struct door_handle *own) {
-  pthread_mutex_lock(&s->lock);
-  bool lent = s->spare.at || door_share(&s->handle, own) == 0;
-  if (s->spare.at) {
-    *own = s->spare;
-    s->spare.at = NULL;
-  }
-  s->users += lent;
-  pthread_mutex_unlock(&s->lock);
-  return lent;
+  own->at = atomic_exchange(&s->spare, NULL);
+  if (!own->at && !share(s, own)) return false;
+  atomic_fetch_add(&s->users, 1);
+  return true;
 }
 
 void take_back(struct shared *s, struct door_handle *own) {
-  pthread_mutex_lock(&s->lock);
-  if (s->handle.at && !s->spare.at) {
-    s->spare = *own;
+  void *none = NULL;
+  if (atomic_compare_exchange_strong(&s->spare, &none, own->at))
     own->at = NULL;
-  } else {
+  else
     door_free(own);
-  }
-  unlock_last(s);
+  leave(s);
 }
 
 static void end_sharing(struct shared *s) {
-  pthread_mutex_lock(&s->lock);
   door_free(&s->handle);
-  if (s->spare.at) door_free(&s->spare);
-  unlock_last(s);
+  leave(s);
 }
 
 static bool read_names(pcre2_code *c) {
@@ -292,6 +287,25 @@ static bool holds(const uint8_t *s, size_t len, const char *part) {
   return false;
 }
 
+/* How many characters before its start a search looks at, at most. Lookbehinds may stand in one
+   another, and each looks as far as the longest; a call can lead from one into itself. A newline
+   before `^` has two characters. */
+static size_t reach_of(const uint8_t *s, size_t len, size_t longest) {
+  static const char *const behind[] = {"(?<", "(*p", "(*n"};
+  static const char *const calls[] = {"(?R", "(?&", "(?P>", "\\g"};
+  size_t levels = 0;
+  bool has_calls = false;
+  for (size_t i = 0; i + 2 < len; i++) {
+    for (size_t k = 0; k < sizeof behind / sizeof *behind; k++)
+      levels += !memcmp(s + i, behind[k], 3);
+    has_calls = has_calls || (s[i] == '(' && s[i + 1] == '?' && strchr("0123456789+-", s[i + 2]));
+  }
+  for (size_t k = 0; k < sizeof calls / sizeof *calls; k++)
+    has_calls = has_calls || holds(s, len, calls[k]);
+  if (levels == 0) return 2;
+  return has_calls ? SIZE_MAX : levels * longest + 2;
+}
+
 /* A code of this text over what a handle holds, which it takes; NULL, and the handle is free, for
  * want of memory. */
 static pcre2_code *code_of(const struct memory *m, struct door_handle handle, const uint8_t *text,
@@ -317,6 +331,7 @@ static pcre2_code *code_of(const struct memory *m, struct door_handle handle, co
   c->newline = with->newline;
   c->bsr = with->bsr;
   c->tables = with->tables;
+  c->reach = reach_of(text, len, c->told.max_lookbehind);
   c->has_callouts =
       options & PCRE2_AUTO_CALLOUT || (!(options & PCRE2_LITERAL) && holds(text, len, "(?C"));
   if (read_names(c)) return c;
@@ -473,11 +488,11 @@ int pcre2_pattern_info(const pcre2_code *c, uint32_t what, void *where) {
   case PCRE2_INFO_JCHANGED: return tell_number(c->jchanged, where);
   case PCRE2_INFO_HASCRORLF: return tell_number(has_cr_or_lf(c), where);
   case PCRE2_INFO_HASBACKSLASHC: return tell_number(0, where);
+  case PCRE2_INFO_MINLENGTH: return tell_number(c != &none && !c->told.can_be_empty, where);
   case PCRE2_INFO_FIRSTCODETYPE: /* hints: nothing is known */
   case PCRE2_INFO_FIRSTCODEUNIT:
   case PCRE2_INFO_LASTCODETYPE:
   case PCRE2_INFO_LASTCODEUNIT:
-  case PCRE2_INFO_MINLENGTH:
   case PCRE2_INFO_BACKREFMAX: return tell_number(0, where);
   case PCRE2_INFO_MATCHLIMIT: return tell_limit(c->told.limits, c->told.match_limit, where);
   case PCRE2_INFO_DEPTHLIMIT:

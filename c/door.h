@@ -44,6 +44,9 @@ struct door_answer {
 struct door_pair {
   uint64_t from, to;
 };
+struct door_run {
+  size_t from, to;
+};
 struct door_ends_answer {
   int32_t code;
   size_t at, count;
@@ -74,6 +77,10 @@ struct door_answer door_match_checked(struct door_handle *, const uint8_t *subje
                                       size_t start, const struct door_match_asked *,
                                       struct door_pair *places, size_t n, uint8_t *mark,
                                       size_t room);
+struct door_answer door_match_runs(struct door_handle *, const uint8_t *subject, size_t len,
+                                   size_t start, const struct door_match_asked *,
+                                   struct door_pair *places, size_t n, uint8_t *mark, size_t room,
+                                   struct door_run *);
 struct door_ends_answer door_ends(struct door_handle *, const uint8_t *subject, size_t len,
                                   size_t start, const struct door_match_asked *, uint64_t *ends,
                                   size_t n);

@@ -62,6 +62,7 @@ struct pcre2_code_of_8 {
   size_t text_len;
   uint8_t *names; /* as PCRE2_INFO_NAMETABLE lays them out */
   uint32_t name_count, name_size;
+  size_t reach; /* how many characters before its start a search looks at, or more */
   bool jchanged, has_callouts;
 };
 

@@ -108,7 +108,6 @@ int limit_code(int32_t code, bool by_depth) {
 
 /* A search of a part of the subject, from a place on. */
 struct search {
-  const pcre2_code *code;
   pcre2_match_data *data;
   struct door_match_asked asked;
   bool by_depth, checked;
@@ -122,52 +121,73 @@ static void keep_mark(pcre2_match_data *m, const struct door_answer *a) {
   m->mark[len < MARK_ROOM ? len : MARK_ROOM - 1] = 0;
 }
 
-static int search_part(struct search *s, size_t from, size_t to, size_t start) {
-  pcre2_match_data *m = s->data;
-  const uint8_t *text = m->subject + from;
-  size_t len = to - from, n = m->groups < m->count ? m->groups + 1 : m->count, unused;
-  struct door_answer a = (s->checked || !s->code->told.utf ? door_match_checked : door_match)(
-      &m->own, text, len, start - from, &s->asked, (struct door_pair *)m->ovector, n, m->mark,
-      MARK_ROOM - 1);
-  keep_mark(m, &a);
-  if (a.code == PCRE2_ERROR_UTF8_ERR1) {
-    m->startchar = from + a.at;
-    return character_fault(text + a.at, len - a.at, &unused);
+/* The begin of what ends at a place, where it is a character. */
+static size_t before(const uint8_t *text, size_t at) {
+  at--;
+  while (at > 0 && (text[at] & 0xc0) == 0x80)
+    at--;
+  return at;
+}
+
+/* Where the part of the subject begins that a search from a place on looks at. In UTF no more than
+   what stands as far before it as lookbehinds look has to be UTF-8 (pcre2api, PCRE2_NO_UTF_CHECK);
+   of what stands before, whole characters are looked at. */
+static size_t part_from(const pcre2_match_data *m, size_t start) {
+  const uint8_t *text = m->subject;
+  size_t at = start < m->subject_len ? before(text, start + 1) : start, len;
+  for (size_t n = 0; at > 0 && n < m->code->reach; n++) {
+    size_t from = before(text, at);
+    if (n >= m->code->told.max_lookbehind &&
+        (character_fault(text + from, at - from, &len) || len != at - from))
+      break;
+    at = from;
   }
-  if (a.code == PCRE2_ERROR_PARTIAL) {
-    m->ovector[0] = m->startchar = from + a.at;
+  return at;
+}
+
+static size_t pairs_of(const pcre2_match_data *m) {
+  return m->groups < m->count ? m->groups + 1 : m->count;
+}
+
+/* Takes what was answered for the part of the subject between two places, from whose begin the door
+   counts. */
+static int take_answer(const struct search *s, const struct door_answer *a, size_t from,
+                       size_t to) {
+  pcre2_match_data *m = s->data;
+  size_t unused;
+  keep_mark(m, a);
+  if (a->code == PCRE2_ERROR_UTF8_ERR1) {
+    m->startchar = from + a->at;
+    return character_fault(m->subject + from + a->at, to - from - a->at, &unused);
+  }
+  if (a->code == PCRE2_ERROR_PARTIAL) {
+    m->ovector[0] = m->startchar = from + a->at;
     m->ovector[1] = to;
   }
-  if (a.code != 0) return limit_code(a.code, s->by_depth);
-  for (size_t i = 0; from > 0 && i < 2 * n; i++) {
+  if (a->code != 0) return limit_code(a->code, s->by_depth);
+  for (size_t i = 0; from > 0 && i < 2 * pairs_of(m); i++) {
     if (m->ovector[i] != PCRE2_UNSET) m->ovector[i] += from;
   }
   m->startchar = m->ovector[0];
-  return a.top < m->count ? (int)a.top + 1 : 0;
+  return a->top < m->count ? (int)a->top + 1 : 0;
 }
 
-/* A subject of PCRE2_MATCH_INVALID_UTF is searched run by run of UTF-8 (pcre2unicode, "Matching in
-   invalid UTF strings"). */
-static int search_runs(struct search *s, size_t start) {
-  const uint8_t *text = s->data->subject;
-  size_t len = s->data->subject_len, from = 0, to = valid_to(text, 0, len);
-  struct door_match_asked asked = s->asked;
-  while (to < start) {
-    from = to + 1;
-    to = valid_to(text, from, len);
-  }
-  if (start > from && start < to && (text[start] & 0xc0) == 0x80) return PCRE2_ERROR_BADUTFOFFSET;
-  s->checked = true;
-  for (;;) {
-    s->asked = asked;
-    s->asked.notbol = asked.notbol || from > 0;
-    s->asked.noteol = asked.noteol || to < len;
-    if (to < len) s->asked.partial = 0;
-    int rc = search_part(s, from, to, start > from ? start : from);
-    if (rc != PCRE2_ERROR_NOMATCH || asked.anchored || to >= len) return rc;
-    from = to + 1;
-    to = valid_to(text, from, len);
-  }
+static int search_part(struct search *s, size_t from, size_t start) {
+  pcre2_match_data *m = s->data;
+  struct door_answer a = (s->checked ? door_match_checked : door_match)(
+      &m->own, m->subject + from, m->subject_len - from, start - from, &s->asked,
+      (struct door_pair *)m->ovector, pairs_of(m), m->mark, MARK_ROOM - 1);
+  return take_answer(s, &a, from, m->subject_len);
+}
+
+/* A subject of PCRE2_MATCH_INVALID_UTF is searched run by run of UTF-8. */
+static int search_runs(struct search *s, size_t from, size_t start) {
+  pcre2_match_data *m = s->data;
+  struct door_run run = {0, 0};
+  struct door_answer a =
+      door_match_runs(&m->own, m->subject + from, m->subject_len - from, start - from, &s->asked,
+                      (struct door_pair *)m->ovector, pairs_of(m), m->mark, MARK_ROOM - 1, &run);
+  return take_answer(s, &a, from + run.from, from + run.to);
 }
 
 static int finish(pcre2_match_data *m, int rc, uint32_t options) {
@@ -189,10 +209,12 @@ int pcre2_match(const pcre2_code *c, PCRE2_SPTR subject, size_t len, size_t star
   m->by_dfa = false;
   m->rc = begin_match(m, c, &subject, &len, start, options, with);
   if (m->rc != 0) return m->rc;
-  struct search s = {.code = c, .data = m, .checked = options & PCRE2_NO_UTF_CHECK};
+  struct search s = {.data = m, .checked = !c->told.utf || options & PCRE2_NO_UTF_CHECK};
   s.asked = match_asked(options, with, &s.by_depth);
-  int rc = c->options & PCRE2_MATCH_INVALID_UTF ? search_runs(&s, start)
-                                                : search_part(&s, 0, len, start);
+  bool by_runs = c->options & PCRE2_MATCH_INVALID_UTF;
+  size_t from = by_runs || !s.checked ? part_from(m, start) : 0;
+  s.asked.notbol = s.asked.notbol || from > 0;
+  int rc = by_runs ? search_runs(&s, from, start) : search_part(&s, from, start);
   if ((rc >= 0 || rc == PCRE2_ERROR_PARTIAL) && m->startchar > with->offset_limit)
     rc = PCRE2_ERROR_NOMATCH;
   m->rc = finish(m, rc, options);

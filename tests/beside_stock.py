@@ -33,6 +33,8 @@ COMMON = ITEMS[:24]
 QUANTIFIERS = "* + ? {2} {1,3} {0,2} *? +? ?? *+ ++ ?+ {2,}".split()
 OPENERS = "( (?: (?= (?! (?<= (?<! (?> (?<n> (?| (?i: (?(1) (?(?=a) (?s-i: (?P<m> (?(R) (?(<n>)".split()
 PIECES = ["a", "b", "c", "x", "A", "B", "1", "2", " ", "\n", "é", "ü", "aa", "ab", "+", "\r\n", "_", "É"]
+BAD_PIECES = [b"\xff", b"\xe2\x82", b"\xc3", b"\x80"]
+MATCH_INVALID_UTF = 0x04000000
 REPLACEMENTS = [b"<$0>", b"[${1}]", b"$$-$1", b"x"]
 
 
@@ -133,6 +135,8 @@ def one_pattern(r, stock, ours, tally):
         tally.add("info", told_a == told_b, text, hex(options), told_a, told_b)
         for _ in range(6):
             one_subject(r, stock, ours, tally, (a, b), (text, hex(options)))
+        if r.randrange(3) == 0:
+            one_bad_subject(r, stock, ours, tally, text, options)
     elif fault_b[0] in NOT_BUILT:
         tally.add("not built", True)
     else:
@@ -141,6 +145,23 @@ def one_pattern(r, stock, ours, tally):
             tally.add("fault", fault_a == fault_b, text, hex(options), fault_a, fault_b)
     stock.free(a)
     ours.free(b)
+
+
+def one_bad_subject(r, stock, ours, tally, text, options):
+    """In bad UTF: our `\\A` and `\\G` hold where a run begins, and no match is partial at the end of an inner run."""
+    if b"\\A" in text or b"\\G" in text:
+        return
+    codes = [lib.compile(text, options | MATCH_INVALID_UTF)[0] for lib in (stock, ours)]
+    for _ in range(6 if all(codes) else 0):
+        pieces = [r.choice(BAD_PIECES) if r.randrange(4) == 0 else r.choice(PIECES).encode() for _ in range(9)]
+        subject = b"".join(pieces[r.randrange(9):])
+        matching = r.choice(MATCH_OPTIONS) & ~PARTIAL if r.randrange(3) == 0 else 0
+        start = 0 if r.randrange(3) else r.randrange(len(subject) + 1)
+        x, y = (lib.match(code, subject, start, matching) for lib, code in zip((stock, ours), codes))
+        if not {x[0], y[0]} & LIMITS:
+            tally.add("match in bad UTF", x == y, text, hex(options), subject, start, hex(matching), x, y)
+    for lib, code in zip((stock, ours), codes):
+        lib.free(code)
 
 
 def one_subject(r, stock, ours, tally, codes, told):

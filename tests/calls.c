@@ -294,6 +294,46 @@ static void utf(void) {
        "xab\xff"
        "xcd\xff",
        1, 0, m);
+  /* a start inside a character, at a bad byte, and in a later run; bad bytes before the start */
+  find(d, "éab", 1, 0, m);
+  find(d,
+       "\xff\xff"
+       "ab",
+       0, 0, m);
+  find(d,
+       "ab\x80"
+       "cd",
+       2, 0, m);
+  find(d,
+       "ab\xff"
+       "cd",
+       3, PCRE2_ANCHORED, m);
+  find(d,
+       "ab\xff"
+       "cd",
+       0, PCRE2_ANCHORED, m);
+  find(d, "ab\xff", 3, 0, m);
+  find(c,
+       "\xff"
+       "aaaaé",
+       5, 0, m);
+  find(c,
+       "\xff"
+       "aé",
+       2, 0, m);
+  find(c, "aaaéé\xff", 5, 0, m);
+  pcre2_code_free(c);
+  c = code("(?m)^d|(?<=^)e|\\bf|\\Ag|(?<=\\A)h|\\Gi", PCRE2_UTF, NULL);
+  find(c, "aaa\nd", 4, 0, m);
+  find(c, "aaad", 3, 0, m);
+  find(c, "aaae", 3, 0, m);
+  find(c, "aaa f", 4, 0, m);
+  find(c, "aaaf", 3, 0, m);
+  find(c, "aaag", 3, 0, m);
+  find(c, "aaah", 3, 0, m);
+  find(c, "aaai", 3, 0, m);
+  find(c, "g", 0, 0, m);
+  find(c, "h", 0, 0, m);
   pcre2_match_data_free(m);
   pcre2_code_free(c);
   pcre2_code_free(d);

@@ -1,5 +1,6 @@
 /* Refuses each allocation of a program once. Every call must answer the error of its page, and
-   nothing may be lost. Also run whole under valgrind and sanitizers (tests/run). */
+   nothing may be lost. And hands calls what they have to refuse. Also run whole under valgrind and
+   sanitizers (tests/run). */
 #define PCRE2_CODE_UNIT_WIDTH 8
 #include "../c/pcre2.h"
 
@@ -100,10 +101,16 @@ static void copies(const pcre2_code *c) {
 }
 
 static void all(void) {
-  static const char *const patterns[] = {
-      "(?<y>\\d{4})-(?<m>\\d\\d)", "(a|b)*c",          "(",
-      "(?<=x)y|\\bfoo\\b",         "^(?:(\\w+)\\s)+$", "\\p{L}+(*MARK:z)",
-      "[[:alpha:]]{2,5}?(.)\\1"};
+  static const char *const patterns[] = {"(?<y>\\d{4})-(?<m>\\d\\d)",
+                                         "(a|b)*c",
+                                         "(",
+                                         "(?<=x)y|\\bfoo\\b",
+                                         "^(?:(\\w+)\\s)+$",
+                                         "\\p{L}+(*MARK:z)",
+                                         "[[:alpha:]]{2,5}?(.)\\1",
+                                         "(?<n>a(?&n)?b)c|(?>x+)y",
+                                         "(?i)fo{2,}|b(?=c)(?C1)",
+                                         "é|[^\\x00-\\x7f]"};
   pcre2_general_context *g = pcre2_general_context_create(NULL, NULL, NULL);
   pcre2_compile_context *cc = pcre2_compile_context_create(g);
   pcre2_match_context *mc = pcre2_match_context_create(g);
@@ -129,11 +136,123 @@ static void all(void) {
   pcre2_general_context_free(g);
 }
 
+/* ---- what is refused ---- */
+
+static void is(const char *what, long rc, long error) {
+  if (rc == error) return;
+  printf("%s answers %ld in place of %ld\n", what, rc, error);
+  wrong = 1;
+}
+
+static int match(const pcre2_code *c, const char *s, size_t len, size_t start, uint32_t options,
+                 pcre2_match_data *m) {
+  return pcre2_match(c, (PCRE2_SPTR)s, len, start, options, m, NULL);
+}
+
+static int fault(const char *pattern, size_t len, uint32_t options, pcre2_compile_context *cc) {
+  int error = 0;
+  size_t at = 0;
+  pcre2_code *c = pcre2_compile((PCRE2_SPTR)pattern, len, options, &error, &at, cc);
+  if (c) error = 0;
+  pcre2_code_free(c);
+  return error;
+}
+
+static void bad_patterns(void) {
+  pcre2_compile_context *cc = pcre2_compile_context_create(NULL);
+  is("NULL pattern", fault(NULL, 1, 0, NULL), PCRE2_ERROR_NULL_PATTERN);
+  is("option", fault("a", 1, 0x10000000u, NULL), PCRE2_ERROR_BAD_OPTIONS);
+  is("option for literals", fault("a", 1, PCRE2_LITERAL | PCRE2_DOTALL, NULL),
+     PCRE2_ERROR_BAD_LITERAL_OPTIONS);
+  is("UTF", fault("\xff", 1, PCRE2_UTF, NULL), PCRE2_ERROR_UTF8_ERR21);
+  pcre2_set_max_pattern_length(cc, 2);
+  is("length", fault("abc", 3, 0, cc), PCRE2_ERROR_PATTERN_STRING_TOO_LONG);
+  pcre2_set_compile_extra_options(cc, 0x80000000u);
+  is("extra option", fault("a", 1, 0, cc), PCRE2_ERROR_BAD_OPTIONS);
+  is("newline", pcre2_set_newline(cc, 0), PCRE2_ERROR_BADDATA);
+  is("bsr", pcre2_set_bsr(cc, 0), PCRE2_ERROR_BADDATA);
+  pcre2_compile_context_free(cc);
+}
+
+static void bad_matches(const pcre2_code *c, pcre2_match_data *m) {
+  int work[20];
+  size_t room = 0;
+  PCRE2_UCHAR out[1];
+  is("NULL code", match(NULL, "a", 1, 0, 0, m), PCRE2_ERROR_NULL);
+  is("NULL data", match(c, "a", 1, 0, 0, NULL), PCRE2_ERROR_NULL);
+  is("NULL subject", match(c, NULL, 1, 0, 0, m), PCRE2_ERROR_NULL);
+  is("NULL subject of no bytes", match(c, NULL, 0, 0, 0, m), PCRE2_ERROR_NOMATCH);
+  is("start", match(c, "a", 1, 2, 0, m), PCRE2_ERROR_BADOFFSET);
+  is("start in a character", match(c, "é", 2, 1, 0, m), PCRE2_ERROR_BADUTFOFFSET);
+  is("UTF", match(c, "a\xc3", 2, 0, 0, m), PCRE2_ERROR_UTF8_ERR1);
+  is("option", match(c, "a", 1, 0, 0x08000000u, m), PCRE2_ERROR_BADOPTION);
+  is("partial at the end", match(c, "a", 1, 0, PCRE2_PARTIAL_HARD | PCRE2_ENDANCHORED, m),
+     PCRE2_ERROR_BADOPTION);
+  is("all ends: no workspace", pcre2_dfa_match(c, (PCRE2_SPTR) "a", 1, 0, 0, m, NULL, NULL, 20),
+     PCRE2_ERROR_NULL);
+  is("all ends: workspace", pcre2_dfa_match(c, (PCRE2_SPTR) "a", 1, 0, 0, m, NULL, work, 19),
+     PCRE2_ERROR_DFA_WSSIZE);
+  is("all ends: start", pcre2_dfa_match(c, (PCRE2_SPTR) "a", 1, 2, 0, m, NULL, work, 20),
+     PCRE2_ERROR_BADOFFSET);
+  is("all ends: go on",
+     pcre2_dfa_match(c, (PCRE2_SPTR) "a", 1, 0, PCRE2_DFA_RESTART, m, NULL, work, 20),
+     PCRE2_ERROR_DFA_BADRESTART);
+  is("substitution: NULL text",
+     pcre2_substitute(c, (PCRE2_SPTR) "a", 1, 0, 0, NULL, NULL, NULL, 1, out, &room),
+     PCRE2_ERROR_NULL);
+  is("substitution: partial",
+     pcre2_substitute(c, (PCRE2_SPTR) "a", 1, 0, PCRE2_PARTIAL_SOFT, NULL, NULL, (PCRE2_SPTR) "", 0,
+                      out, &room),
+     PCRE2_ERROR_BADOPTION);
+  room = 0;
+  is("substitution: no room",
+     pcre2_substitute(c, (PCRE2_SPTR) "a", 1, 0, 0, NULL, NULL, (PCRE2_SPTR) "", 0, out, &room),
+     PCRE2_ERROR_NOMEMORY);
+}
+
+static void bad_questions(const pcre2_code *c, pcre2_match_data *m) {
+  uint32_t n;
+  PCRE2_UCHAR out[1], *text;
+  PCRE2_UCHAR **list;
+  size_t room = 1;
+  is("question", pcre2_pattern_info(c, 99, &n), PCRE2_ERROR_BADOPTION);
+  is("question of NULL", pcre2_pattern_info(NULL, PCRE2_INFO_BSR, &n), PCRE2_ERROR_NULL);
+  is("pairs", pcre2_get_ovector_count(m), 1);
+  is("match", match(c, "xéx", 4, 0, 0, m), 0);
+  is("group past the vector", pcre2_substring_length_bynumber(m, 1, NULL), PCRE2_ERROR_UNAVAILABLE);
+  is("group", pcre2_substring_length_bynumber(m, 9, NULL), PCRE2_ERROR_NOSUBSTRING);
+  is("room", pcre2_substring_copy_bynumber(m, 0, out, &room), PCRE2_ERROR_NOMEMORY);
+  is("name", pcre2_substring_get_byname(m, (PCRE2_SPTR) "z", &text, &room),
+     PCRE2_ERROR_NOSUBSTRING);
+  is("no match", match(c, "x", 1, 0, 0, m), PCRE2_ERROR_NOMATCH);
+  is("list", pcre2_substring_list_get(m, &list, NULL), PCRE2_ERROR_NOMATCH);
+  is("message", pcre2_get_error_message(1, out, 1), PCRE2_ERROR_BADDATA);
+  is("message without room", pcre2_get_error_message(-1, out, 0), PCRE2_ERROR_NOMEMORY);
+  is("configuration", pcre2_config(99, &n), PCRE2_ERROR_BADOPTION);
+  is("serialized NULL", pcre2_serialize_get_number_of_codes(NULL), PCRE2_ERROR_NULL);
+  is("code of NULL", pcre2_code_copy(NULL) != NULL, 0);
+  is("callouts of NULL", pcre2_callout_enumerate(NULL, NULL, NULL), PCRE2_ERROR_NULL);
+}
+
+static void bad_input(void) {
+  int error;
+  size_t at;
+  pcre2_code *c =
+      pcre2_compile((PCRE2_SPTR) "(é)", PCRE2_ZERO_TERMINATED, PCRE2_UTF, &error, &at, NULL);
+  pcre2_match_data *m = pcre2_match_data_create(0, NULL);
+  bad_patterns();
+  bad_matches(c, m);
+  bad_questions(c, m);
+  pcre2_match_data_free(m);
+  pcre2_code_free(c);
+}
+
 int main(void) {
   long before, n = 0;
   printf("begins\n");
   fflush(stdout);
   left = -1;
+  bad_input();
   all();
 #ifdef COUNTING
   do {

@@ -10,10 +10,12 @@ ghost use Rattle.pcre2_api.specs.Substituted.{substituted};
 ghost use Rattle.c_door.specs.Asking.{options_of, match_options_of, subst_options_of};
 ghost use Rattle.c_door.specs.Telling.{IsHeld, IsCompiled, IsAnswer, IsEnds, IsReplaced, IsShared, IsText, IsName};
 ghost use Rattle.c_door.specs.Telling.{IsPut, told_of};
+ghost use Rattle.c_door.specs.Runs.{IsRunsAnswer};
 
 use crate::asked::{Asked, MatchAsked, SubstAsked, match_options_of, options_of, subst_options_of};
 use crate::engine::Engine;
 use crate::handle::Handle;
+use crate::runs::Run;
 use crate::texts::put;
 use crate::told::{Answer, EndsAnswer, Fault, Named, Pair, SubstAnswer, Told, answer_of, fault_of};
 use pcre2_api::{CompileError, fault_text};
@@ -101,6 +103,36 @@ pub extern "C" fn door_match_checked(
     let told = engine.find_again(subject, start, &options, places, mark);
     handle.put(engine);
     answer_of(told)
+}
+
+/// Looks for a match in a subject that may hold bad UTF-8 (PCRE2_MATCH_INVALID_UTF), run by run of
+/// UTF-8. Tells the run in which it found the answer, from whose begin all places are counted.
+#[unsafe(no_mangle)]
+pub extern "C" fn door_match_runs(
+    alloc: Global,
+    handle: &mut Handle,
+    subject: &[u8],
+    start: usize,
+    asked: &MatchAsked,
+    places: &mut [Pair],
+    mark: &mut [u8],
+    run: &mut Run,
+) -> Answer
+    requires held { is_some handle.old.engine ≡ true }
+    requires begun { start ≤ length subject.now }
+    requires short { length subject.now < 4294967295 }
+    requires few { length places.old ≤ 65536 }
+    ensures answer { IsHeld handle.old.engine (λ e. IsRunsAnswer e.code.value
+        (match_options_of asked.now) subject.now start result run.new places.new mark.new) }
+    ensures kept { IsHeld handle.old.engine (λ e. IsHeld handle.new.engine
+        (λ n. n.code.value ≡ e.code.value)) }
+{
+    let options = match_options_of(asked);
+    let mut engine = handle.take(alloc);
+    let found = engine.find_in_runs(subject, start, &options, places, mark);
+    handle.put(engine);
+    *run = found.run;
+    answer_of(found.told)
 }
 
 /// Looks for all ends of a match (pcre2api, "Matching a pattern: the alternative function"), and

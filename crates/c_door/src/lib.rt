@@ -7,10 +7,12 @@ mod engine;
 mod exports;
 mod handle;
 mod parts;
+mod runs;
 mod texts;
 mod told;
 
 pub use asked::{Asked, MatchAsked, SubstAsked};
 pub use engine::Engine;
 pub use handle::Handle;
+pub use runs::Run;
 pub use told::{Answer, EndsAnswer, Fault, Hit, Named, Pair, SubstAnswer, Told};

@@ -5,9 +5,10 @@ ghost use Rattle.std.specs.List.{list_any};
 ghost use Rattle.byte_lanes.specs.Sets.{has_byte};
 ghost use Rattle.pat_tree.specs.declared.nodes.SetName.TheVariants.{Digit, Space, Word};
 ghost use Rattle.uni_text.specs.Ascii.{ascii_fold};
+ghost use Rattle.uni_text.specs.Properties.{has_prop, prop_by_number};
 ghost use Rattle.char_sets.specs.Named.{set_in};
 ghost use Rattle.char_sets.specs.Runs.{runs_have};
-ghost use Rattle.char_sets.specs.Sets.{set_has};
+ghost use Rattle.char_sets.specs.Sets.{property_has, set_has};
 ghost use Rattle.char_sets.specs.Table as spec;
 
 use crate::named::{NamedSet, is_in_set};
@@ -15,6 +16,7 @@ use crate::runs::Run;
 use crate::sets::is_letter;
 use byte_lanes::ByteSet;
 use pat_tree::SetName;
+use uni_text::{Prop, has_prop};
 
 /// The bytes that a class of these runs and sets takes.
 pub(crate) fn bytes_of(runs: &[Run], sets: &[NamedSet], negated: bool) -> ByteSet
@@ -53,6 +55,9 @@ fn bytes_of_sets(sets: &[NamedSet]) -> ByteSet
 fn bytes_of_set(named: &NamedSet) -> ByteSet
     ensures { (k : ℕ) → k < 256 → has_byte result k ≡ set_in named.now k }
 {
+    if let SetName::Property(number) = named.set {
+        return turned_if(named.reversed, bytes_with_number(number));
+    }
     if named.ucp {
         return bytes_with_ucp(named);
     }
@@ -88,6 +93,28 @@ fn word_bytes() -> ByteSet
     add_range(&mut bytes, b'A', b'Z');
     bytes.insert(b'_');
     add_range(&mut bytes, b'a', b'z');
+    bytes
+}
+
+/// The bytes with the property of a number, which is looked up once.
+fn bytes_with_number(number: u16) -> ByteSet
+    ensures { (k : ℕ) → k < 256 → has_byte result k ≡ property_has (prop_by_number number) k }
+{
+    match Prop::by_number(number) {
+        Some(p) => bytes_with(p),
+        None => ByteSet::empty(),
+    }
+}
+
+fn bytes_with(p: Prop) -> ByteSet
+    ensures { (k : ℕ) → k < 256 → has_byte result k ≡ has_prop p k }
+{
+    let mut bytes = ByteSet::empty();
+    for b in 0..256u32 {
+        if has_prop(p, b) {
+            bytes.insert(b as u8);
+        }
+    }
     bytes
 }
 

@@ -1,11 +1,11 @@
 -- The branches of lookbehinds have one length each, whatever stands around them.
 use Rattle.std.proofs.Common.{◌≡◌, ◌∙◌, ℕ, zero, suc, ◌<◌, ◌≤◌, Bool, true, false, List, [], ◌∷◌, ◌++◌, map}
 use Rattle.std.proofs.Common.{flat_map, All, Option, Some, None, get_or, refl, sym, ap, subst, arith, length}
-use Rattle.std.specs.Prelude.{◌==◌, ◌||◌, nat_le, slice_get, slice_index_or}
+use Rattle.std.specs.Prelude.{◌||◌, slice_get, slice_index_or}
 use Rattle.std.specs.List.{list_any}
 use Rattle.std.specs.Option.{option_or}
-use Rattle.std.proofs.lemmas.Bool.{false≢true, eqb-true, leb-true}
-use Rattle.std.proofs.lemmas.List.{get_or_default}
+use Rattle.std.proofs.lemmas.Bool.{false≢true}
+use Rattle.std.proofs.lemmas.List.{get_or_default, get_or-map}
 use Rattle.std.proofs.lemmas.List.Elements.{All-nil, All-cons, All-head, All-tail, All-append}
 use Rattle.pat_tree.specs.declared.nodes.Node as parts
 use Rattle.pat_tree.specs.declared.nodes.Node.TheVariants as part
@@ -20,14 +20,16 @@ use Rattle.pat_tree.specs.Sound.{TreeRules}
 use Rattle.pat_tree.proofs.Reached.{reached_node}
 use Rattle.node_flow.specs.Order.{order}
 use Rattle.node_flow.proofs.TreeLaws.{parts_come_first}
+use Rattle.pat_lengths.specs.declared.backs.Back.{Back}
 use Rattle.pat_lengths.specs.declared.backs.LengthFault.{LengthFault}
 use Rattle.pat_lengths.specs.Nodes.{all_nodes, has_lookbehind, nodes, nodes_in, nodes_of_test, nodes_of_other}
 use Rattle.pat_lengths.specs.Nodes.{is_accept, captures}
-use Rattle.pat_lengths.specs.Lengths.{SomeLengths, between, only, in_turn, either, in_turns, lengths}
+use Rattle.pat_lengths.specs.Lengths.{SomeLengths, only, in_turn, either, in_turns, lengths}
 use Rattle.pat_lengths.specs.Lengths.{lengths_in_turn, lengths_of_one, lengths_of_other, of_test, behind, any_length}
-use Rattle.pat_lengths.specs.Lengths.{branch_lengths, counted, too_long, branch_fault, by_calls, can_be_empty}
+use Rattle.pat_lengths.specs.Lengths.{branch_lengths, branch_fault, by_calls, can_be_empty}
 use Rattle.pat_lengths.specs.Backs.{AreBacks, behind_branches, fault_from, lengths_at, fault_among, fault_of_node}
-use Rattle.pat_lengths.specs.Backs.{fault_in, first_fault}
+use Rattle.pat_lengths.specs.Backs.{mosts, no_back, fault_in, first_fault}
+use Rattle.pat_lengths.proofs.BackLemmas.{some_none, one_length}
 use Rattle.pat_lengths.proofs.OrderLemmas.{node_first, nodes_at}
 use Rattle.dfa_ends.specs.pat_check.Support.{node_support, or_later, support_of_all, dfa_support}
 use Rattle.dfa_ends.specs.pat_check.declared.support.DfaSupport.{DfaSupport}
@@ -260,43 +262,9 @@ has_back u w t n a e = λ u' w'.
     ∙ same u' u w' w (behind u' w' (suc (captures w'))) (behind u w (suc (captures w))) t a
     ∙ sym (without_accept u w t a) ∙ e
 
--- A branch that isn't refused has one length.
-
-some_none : {A : Type 0} (a : A) → Some a ≡ None → ⊥
-some_none a e = cc
-
-same_lengths : (b : Bool) (x : Option ℕ) →
-    (let z : Option ℕ = elim b [ true ↦ x | false ↦ Some 125 ] in z ≡ None) →
-    (b ≡ true) × (x ≡ None)
-same_lengths true x e = (refl, e)
-same_lengths false x e = absurd (some_none 125 e)
-
-not_long : (b : Bool) →
-    (let z : Option ℕ = elim b [ true ↦ None | false ↦ Some 187 ] in z ≡ None) → b ≡ true
-not_long true e = refl
-not_long false e = absurd (some_none 187 e)
-
-one_of : (least : ℕ) (most : Option ℕ) → branch_fault (between least most) ≡ None →
-    (n : ℕ) × (between least most ≡ only n)
-one_of least None e = absurd (some_none 125 e)
-one_of least (Some most) e =
-    let h = same_lengths (counted least == counted most) (too_long (counted most)) e in
-    let same : counted least ≡ counted most = eqb-true (counted least) (counted most) h.0 in
-    let short : counted most ≤ 65535 = leb-true (counted most) 65535
-    (not_long (nat_le (counted most) 65535) h.1) in
-    let equal : most ≡ least = omega (arith, same, short) in
-    (least, ap (λ m. between least (Some m)) equal)
-
-one_length : (a : SomeLengths) → branch_fault a ≡ None → (n : ℕ) × (a ≡ only n)
-one_length None e = absurd (some_none 125 e)
-one_length (Some a) e = one_of a.least a.most e
-
-only_same : (a b : ℕ) → only a ≡ only b → a ≡ b
-only_same a b e = ap least_of e
-  where
-    least_of : SomeLengths → ℕ
-    least_of None = 0
-    least_of (Some x) = x.least
+abbrev most_of : SomeLengths → ℕ
+most_of None = 0
+most_of (Some x) = elim x.most [ None ↦ 0 | Some most ↦ most ]
 
 -- What is known of the parts of a tree.
 
@@ -326,10 +294,12 @@ AreTold ps root backs =
     (k b : ℕ) → k ≤ root → HasBack (tree_at (trees ps) k) b → branch_fault (only b) ≡ None →
     slice_index_or backs k 0 ≡ b
 
-pub are_told : (t : TreeParts) (backs : List ℕ) → AreBacks t backs → AreTold t.nodes t.root backs
+pub are_told : (t : TreeParts) (backs : List Back) → AreBacks t backs → AreTold t.nodes t.root (mosts backs)
 are_told t backs h k b l is fine =
     let e = is t.options.match_unset_backref (tree_of t) in
-    only_same _ _ (sym (h.each k l (ap branch_fault e ∙ fine)) ∙ e)
+    let inside : k < length backs = omega (arith, l, h.count) in
+    get_or-map (λ (b : Back). b.most) backs k no_back 0 inside
+    ∙ ap most_of (sym (h.each k l (ap branch_fault e ∙ fine)) ∙ e)
 
 -- of a branch of a lookbehind
 known_at : (ts : List Nested) (ks : List ℕ) (i k : ℕ) → HaveKnown (row (map (tree_at ts) ks)) →

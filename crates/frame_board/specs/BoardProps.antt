@@ -19,6 +19,7 @@ use Rattle.frame_state.specs.Behind.{AreFixed, HasFixed}
 use Rattle.frame_board.specs.Ready.{IsBoardSearch, IsKnown}
 use Rattle.pat_lengths.specs.Lengths.{SomeLengths}
 use Rattle.pat_lengths.specs.Backs.{AreBacks}
+use Rattle.pat_lengths.specs.declared.backs.Back.{Back}
 use Rattle.pat_lengths.specs.Places.{ArePlaces}
 use Rattle.pat_lengths.specs.declared.groups.Groups.{Groups}
 
@@ -74,7 +75,7 @@ AreBranchesOf-prop nodes root branches = hlevel props
 pub AreRanks-prop : (nodes : List Placed) (root : ℕ) (ranks : List ℕ) → IsProp (AreRanks nodes root ranks)
 AreRanks-prop nodes root ranks = hlevel props
 
-pub AreBacks-prop : (t : TreeParts) (backs : List ℕ) → IsProp (AreBacks t backs)
+pub AreBacks-prop : (t : TreeParts) (backs : List Back) → IsProp (AreBacks t backs)
 AreBacks-prop t backs = hlevel props
 
 pub ArePlaces-prop : (t : TreeParts) (groups : Groups) → IsProp (ArePlaces t groups)

@@ -18,6 +18,7 @@ use char_sets::ClassTable;
 use frame_state::searchable::{Run, Searchable};
 use match_items::{View, anchor, break_step, ref_step, text_back, text_before};
 use pat_check::Facts;
+use pat_lengths::Back;
 use pat_tree::{AnchorKind, Item, MatchOptions, Node, Options, PartialMode, Tree};
 use pcre_io::Callouts;
 use std::snapshot::Snapshot;
@@ -218,7 +219,7 @@ impl<C: Callouts> Searchable for Board<'_, C> {
         }
     }
 
-    fn back(&self, branch: u32) -> u32 {
+    fn back(&self, branch: u32) -> Back {
         self.facts.back(branch)
     }
 

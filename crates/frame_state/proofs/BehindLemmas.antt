@@ -1,7 +1,6 @@
 -- The lengths of lookbehinds.
-use Rattle.std.proofs.Common.{◌≡◌, ℕ, zero, suc, ◌≤◌, Bool, true, false, ◌==◌, nat_le, List, [], ◌∷◌, ◌++◌, flat_map}
-use Rattle.std.proofs.Common.{drop, length, All, Option, Some, None, refl, sym, ap, subst, arith, length-drop}
-use Rattle.std.proofs.lemmas.Bool.{eqb-true, leb-true}
+use Rattle.std.proofs.Common.{◌≡◌, ℕ, zero, suc, ◌≤◌, true, List, [], ◌∷◌, ◌++◌, flat_map}
+use Rattle.std.proofs.Common.{drop, length, All, Some, None, sym, subst, arith, length-drop}
 use Rattle.std.proofs.lemmas.List.Elements.{All-nil, All-cons, All-head, All-tail, All-append}
 use Rattle.pat_tree.specs.declared.nodes.Node.{Node}
 use Rattle.pat_tree.specs.Nested.{Nested, nest, tree_at}
@@ -9,36 +8,7 @@ use Rattle.pat_tree.specs.Rules.{kids_of, asserted_by, is_test}
 use Rattle.match_items.specs.Scene.{Scene}
 use Rattle.match_items.specs.Items.{places_back, previous}
 use Rattle.pat_lengths.specs.Nodes.{all_nodes}
-use Rattle.pat_lengths.specs.Lengths.{SomeLengths, between, only, counted, too_long, branch_fault}
 use Rattle.pat_lengths.proofs.OrderLemmas.{node_first, nodes_at}
-
-some_none : {A : Type 0} (a : A) → Some a ≡ None → ⊥
-some_none a e = cc
-
--- A branch that isn't refused has one length.
-
-same_lengths : (b : Bool) (x : Option ℕ) → (let z : Option ℕ = elim b [ true ↦ x | false ↦ Some 125 ] in z ≡ None)
-    → (b ≡ true) × (x ≡ None)
-same_lengths true x e = (refl, e)
-same_lengths false x e = absurd (some_none 125 e)
-
-not_long : (b : Bool) → (let z : Option ℕ = elim b [ true ↦ None | false ↦ Some 187 ] in z ≡ None) → b ≡ true
-not_long true e = refl
-not_long false e = absurd (some_none 187 e)
-
-one_of : (least : ℕ) (most : Option ℕ) → branch_fault (between least most) ≡ None
-    → (n : ℕ) × (between least most ≡ only n)
-one_of least None e = absurd (some_none 125 e)
-one_of least (Some most) e =
-    let h = same_lengths (counted least == counted most) (too_long (counted most)) e in
-    let same : counted least ≡ counted most = eqb-true (counted least) (counted most) h.0 in
-    let short : counted most ≤ 65535 = leb-true (counted most) 65535 (not_long (nat_le (counted most) 65535) h.1) in
-    let equal : most ≡ least = omega (arith, same, short) in
-    (least, ap (λ m. between least (Some m)) equal)
-
-pub one_length : (a : SomeLengths) → branch_fault a ≡ None → (n : ℕ) × (a ≡ only n)
-one_length None e = absurd (some_none 125 e)
-one_length (Some a) e = one_of a.least a.most e
 
 -- no more than one place is so many characters back
 pub one_place : (g : Scene) (n p : ℕ) → length (drop n (places_back g n p)) ≤ 1

@@ -41,7 +41,8 @@ use Rattle.frame_state.specs.Behind.{AreFixed, HasFixed}
 use Rattle.frame_state.specs.Begun.{is_behind, IsFixedPart, begun_by, begun_place, begun_next, first_begun}
 use Rattle.frame_state.specs.Reach.{referred_reaches}
 use Rattle.frame_state.specs.Ground.{Ground, tree_of, IsNode, IsMeasuredIn, IsPart, IsGround}
-use Rattle.frame_state.proofs.BehindLemmas.{one_length, one_place, all_here}
+use Rattle.pat_lengths.proofs.BackLemmas.{one_length}
+use Rattle.frame_state.proofs.BehindLemmas.{one_place, all_here}
 use Rattle.frame_state.specs.Machine.{less, in_row, first_set, first_next, Outside}
 use Rattle.frame_state.specs.Frames.{after, past, enter, branch_rest, branch_from, offer_from, begin_from}
 use Rattle.frame_state.specs.Frames.{turned_from, close_from, focus, branch_row, branch_path, other_from}

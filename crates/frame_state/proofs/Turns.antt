@@ -19,7 +19,7 @@ use Rattle.frame_store.specs.Captures.{Captures, capture}
 use Rattle.frame_store.specs.Entry.{Entry, GroupOpen, LaterBranch, Site, Kept, entry_site}
 use Rattle.ordered_search.specs.Stream.{State, prune, skip, commit, reached}
 use Rattle.ordered_search.specs.PlaceAnswer.{answers, MatchLimit, FrameLimit}
-use Rattle.pat_lengths.specs.Lengths.{SomeLengths}
+use Rattle.pat_lengths.specs.Lengths.{SomeLengths, between}
 use Rattle.ordered_search.specs.Setting.{branch_lengths}
 use Rattle.ordered_search.specs.Moves.{Moves, pause, stepped, Follow, Path, catching, going, holding, reaching}
 use Rattle.ordered_search.specs.Moves.{tread, Handler}
@@ -128,9 +128,14 @@ agreed_hands c stack other caps now l p e =
 -- A branch is begun: where it begins stands.
 
 module _ (c : Ground) (ok : IsGround c) where
+  stands_by : (least : ℕ) (most : Option ℕ) (place : ℕ) → c.stands place ≡ true
+      → StandsIf c (begun_by c (between least most) place)
+  stands_by least None place h = tt
+  stands_by least (Some most) place h = ok.steps_back most place h
+
   stands_begun : (a : SomeLengths) (place : ℕ) → c.stands place ≡ true → StandsIf c (begun_by c a place)
   stands_begun None place h = tt
-  stands_begun (Some a) place h = ok.steps_back a.least place h
+  stands_begun (Some a) place h = stands_by a.least a.most place h
 
   stands_at : (p place : ℕ) → c.stands place ≡ true → StandsIf c (begun_place c p place)
   stands_at p place h = stands_begun (branch_lengths c.setting (tree_of c p)) place h

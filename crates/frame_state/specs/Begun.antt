@@ -21,7 +21,10 @@ module _ (c : Ground) where
 
   abbrev pub begun_by : SomeLengths → ℕ → Option ℕ
   begun_by None place = None
-  begun_by (Some a) place = place_back c.setting.scene a.least place
+  begun_by (Some a) place = elim a.most [
+    | None ↦ None
+    | Some most ↦ place_back c.setting.scene most place
+  ]
 
   -- where a branch of a lookbehind begins
   abbrev pub begun_place : ℕ → ℕ → Option ℕ

@@ -32,7 +32,7 @@ pub fn begin_branch<S: Searchable>(on: &S, behind: bool, branch: u32, spot: &mut
     if !behind {
         return Next::Enter(branch);
     }
-    let count = on.back(branch);
+    let count = on.back(branch).most;
     let to = on.step_back(spot.place, count);
     match to {
         None => Next::Back,

@@ -5,7 +5,7 @@ ghost use Rattle.match_items.specs.Items as items;
 ghost use Rattle.match_items.specs.Items.{after_item, after_break, after_ref, longest_run, run_reaches, place_before};
 ghost use Rattle.match_items.specs.Items.{holds, earliest};
 ghost use Rattle.match_items.specs.Views.{end_of};
-ghost use Rattle.pat_lengths.specs.Lengths.{only};
+ghost use Rattle.pat_lengths.specs.Backs.{lengths_back};
 ghost use Rattle.ordered_search.specs.Parts.{same_text};
 ghost use Rattle.ordered_search.specs.Setting.{match_limit, branch_lengths, verb_name};
 ghost use Rattle.ordered_search.specs.Places.{is_off};
@@ -15,6 +15,7 @@ ghost use Rattle.frame_state.specs.Behind.{place_back};
 ghost use Rattle.frame_state.specs.Begun.{IsFixedPart};
 ghost use Rattle.frame_state.specs.Calls.{IsCalled};
 
+use pat_lengths::Back;
 use pat_tree::{AnchorKind, Item, MatchOptions, Node, Options};
 
 /// A run of one item.
@@ -148,12 +149,12 @@ pub trait Searchable {
         requires { (searched self.now).stands at ≡ true }
         ensures { result ≡ place_back (searched self.now).setting.scene count at };
 
-    /// The length of a branch of a lookbehind, in characters.
-    fn back(&self, branch: u32) -> u32
+    /// The least and the greatest length of a branch of a lookbehind, in characters.
+    fn back(&self, branch: u32) -> Back
         requires inside { IsPart (searched self.now) branch }
         requires fixed { IsFixedPart (searched self.now) branch }
         ensures { branch_lengths (searched self.now).setting (tree_of (searched self.now) branch)
-            ≡ only result };
+            ≡ lengths_back result };
 
     /// Whether two numbers of verbs' names are of the same name. A number that is of none has the empty name.
     fn same_name(&self, first: u32, second: u32) -> bool

@@ -3,3 +3,4 @@ pub mod PatternTrees
 pub mod PatternLines
 pub mod Lacking
 pub mod Widening
+pub mod Finding

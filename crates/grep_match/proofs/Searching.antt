@@ -71,13 +71,13 @@ not_added wanted list a code matching line start h = unfound wanted (length line
 
 -- what an answer says of the one that is meant
 
-is_none : (wanted : List ℕ) (len : ℕ) (before after : Listed) (x : Answer)
+pub is_none : (wanted : List ℕ) (len : ℕ) (before after : Listed) (x : Answer)
     → IsAnswer wanted len before after told.Nothing x → (x ≡ none) × (after ≡ before)
 is_none wanted len before after none h = (refl, h)
 is_none wanted len before after (found o) h = absurd h
 is_none wanted len before after (error e) h = absurd h
 
-is_error : (wanted : List ℕ) (len : ℕ) (before after : Listed) (n : ℤ) (x : Answer)
+pub is_error : (wanted : List ℕ) (len : ℕ) (before after : Listed) (n : ℤ) (x : Answer)
     → IsAnswer wanted len before after (told.Error n) x → x ≡ error n
 is_error wanted len before after n (error e) h = ap error (sym h)
 is_error wanted len before after n none h = absurd h
@@ -140,13 +140,13 @@ restated wanted wanted' len before after a a' matching matching' line start patt
     (subst (λ x. IsAnswer x len before after a (first_answer matching line start patterns)) e h))
 
 -- the meant match, with what the code's answer says of it
-record IsMatched (wanted : List ℕ) (len : ℕ) (before after : Listed) (place : Place) (x : Answer) : Type 0 where
-  outcome : Outcome
-  is : x ≡ found outcome
-  adds : IsAdded wanted before after place outcome
-  within : IsInLine len outcome
+pub record IsMatched (wanted : List ℕ) (len : ℕ) (before after : Listed) (place : Place) (x : Answer) : Type 0 where
+  pub outcome : Outcome
+  pub is : x ≡ found outcome
+  pub adds : IsAdded wanted before after place outcome
+  pub within : IsInLine len outcome
 
-is_matched : (wanted : List ℕ) (len : ℕ) (before after : Listed) (place : Place) (x : Answer)
+pub is_matched : (wanted : List ℕ) (len : ℕ) (before after : Listed) (place : Place) (x : Answer)
     → IsAnswer wanted len before after (told.Found place) x → IsMatched wanted len before after place x
 is_matched wanted len before after place (found o) h = record { outcome = o; is = refl; adds = h.0; within = h.1 }
 is_matched wanted len before after place none h = absurd h
@@ -164,7 +164,7 @@ found_within wanted len before after place x h = to_within wanted len before aft
 
 -- lists of matches
 
-lists_more : (wanted : List ℕ) (len : ℕ) (before after : Listed) (place : Place) (os : List Outcome) (o : Outcome)
+pub lists_more : (wanted : List ℕ) (len : ℕ) (before after : Listed) (place : Place) (os : List Outcome) (o : Outcome)
     → Lists wanted len before os → IsAdded wanted before after place o → IsInLine len o
     → Lists wanted len after (os ++ o ∷ [])
 lists_more wanted len before after place os o had adds within = record {
@@ -190,18 +190,18 @@ unfoldable pub prefixed : List Outcome → Matches → Matches
 prefixed [] m = m
 prefixed (o ∷ os) m = with_match o (prefixed os m)
 
-prefixed_more : (os : List Outcome) (o : Outcome) (m : Matches)
+pub prefixed_more : (os : List Outcome) (o : Outcome) (m : Matches)
     → prefixed os (with_match o m) ≡ prefixed (os ++ o ∷ []) m
 unfolding prefixed
 prefixed_more [] o m = refl
 prefixed_more (p ∷ os) o m = ap (with_match p) (prefixed_more os o m)
 
-prefixed_none : (os : List Outcome) → prefixed os (Ok []) ≡ Ok os
+pub prefixed_none : (os : List Outcome) → prefixed os (Ok []) ≡ Ok os
 unfolding prefixed
 prefixed_none [] = refl
 prefixed_none (o ∷ os) = ap (with_match o) (prefixed_none os)
 
-prefixed_error : (os : List Outcome) (e : ℤ) → prefixed os (Err e) ≡ Err e
+pub prefixed_error : (os : List Outcome) (e : ℤ) → prefixed os (Err e) ≡ Err e
 unfolding prefixed
 prefixed_error [] e = refl
 prefixed_error (o ∷ os) e = ap (with_match o) (prefixed_error os e)
@@ -332,7 +332,7 @@ module _ (plan : GrepPlan) (patterns : List Pattern) (line : List ℕ) where
   unfolding matches
   line_error x e = rw (e, matches) refl
 
-  line_one : (o : Outcome) → shows_each plan ≡ false → first_answer (limits plan) line 0 patterns ≡ found o
+  pub line_one : (o : Outcome) → shows_each plan ≡ false → first_answer (limits plan) line 0 patterns ≡ found o
       → matches plan patterns line ≡ Ok (o ∷ [])
   unfolding matches
   line_one o each e = rw (e, each, matches) refl

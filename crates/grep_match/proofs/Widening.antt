@@ -41,7 +41,7 @@ alt-last hay (y ∷ ys) x i j h = inr (alt-last hay ys x i j h)
 abbrev pub branches : List Hir → Re
 branches hirs = alt_all (map meaning hirs)
 
-branches-more : (hirs : List Hir) (hir : Hir) → branches (hirs ++ hir ∷ []) ≡ alt_all
+pub branches-more : (hirs : List Hir) (hir : Hir) → branches (hirs ++ hir ∷ []) ≡ alt_all
     (map meaning hirs ++ meaning hir ∷ [])
 branches-more hirs hir = ap alt_all (map-append meaning hirs (hir ∷ []))
 

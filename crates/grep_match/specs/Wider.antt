@@ -1,12 +1,14 @@
--- Lines of a text in which no match of an expression begins (docs/SPEED.md, "A text that every match needs").
-use Rattle.std.specs.Prelude.{◌≡◌, ◌≢◌, ℕ, ◌+◌, ◌<◌, ◌≤◌, Bool, List, [], ◌++◌, length, slice_index, Ok}
+-- Lines of a text in which no match of an expression begins, or one does (docs/SPEED.md, "A text that every match
+-- needs").
+use Rattle.std.specs.Prelude.{◌≡◌, ◌≢◌, ℕ, ◌+◌, ◌<◌, ◌≤◌, Bool, List, [], ◌∷◌, ◌++◌, length, slice_index, Ok}
 use Rattle.uni_text.specs.Characters.{IsChecked}
 use Rattle.regex_hir.specs.Re.{Re}
 use Rattle.regex_hir.specs.Matches.{Matches}
 use Rattle.regex_hir.specs.Meaning.{meaning}
 use Rattle.pat_tree.specs.Pattern.{Pattern}
 use Rattle.pat_tree.specs.declared.options.MatchOptions.{MatchOptions}
-use Rattle.pcre2_api.specs.Answers.{none}
+use Rattle.ordered_search.specs.PlaceAnswer.{Outcome}
+use Rattle.pcre2_api.specs.Answers.{found, none}
 use Rattle.pat_shape.specs.Looks.{IsLine}
 use Rattle.grep_args.specs.declared.plan.GrepPlan.{GrepPlan}
 use Rattle.grep_match.specs.Matches.{matches, first_answer}
@@ -38,3 +40,37 @@ IsWiderBy plan patterns re most utf =
 abbrev pub AreWider : GrepPlan → List Pattern → Wider → Type 0
 AreWider plan patterns wider =
     IsWiderBy plan patterns (meaning wider.hir) wider.most wider.utf
+
+-- such a line in which a match begins
+pub record HasMatch (re : Re) (most : ℕ) (utf : Bool) (before line after : List ℕ) : Type 0 where
+  pub short : length line ≤ most
+  pub small : (k : ℕ) → k < length line → slice_index line k < 256
+  pub whole : (k : ℕ) → k < length line → slice_index line k ≢ 10
+  pub is_line : IsLine before line after
+  pub checked : IsChecked utf line
+  pub at : ℕ
+  pub to : ℕ
+  pub from : length before ≤ at
+  pub within : at ≤ length before + length line
+  pub matches : Matches (before ++ (line ++ after)) re at to
+
+-- some pattern matches such a line
+abbrev pub SomeMatches : MatchOptions → List Pattern → Wider → Type 0
+SomeMatches matching patterns wider =
+    (before line after : List ℕ)
+    → HasMatch (meaning wider.hir) wider.most wider.utf before line after
+    → (o : Outcome) × (first_answer matching line 0 patterns ≡ found o)
+
+-- the line has one match that counts, and no search on it gives an error
+abbrev pub HasOne : GrepPlan → List Pattern → List ℕ → Type 0
+HasOne plan patterns line = (o : Outcome) × (matches plan patterns line ≡ Ok (o ∷ []))
+
+-- such a line has one
+abbrev pub IsExactBy : GrepPlan → List Pattern → Re → ℕ → Bool → Type 0
+IsExactBy plan patterns re most utf =
+    (before line after : List ℕ) → HasMatch re most utf before line after
+    → HasOne plan patterns line
+
+abbrev pub AreExact : GrepPlan → List Pattern → Wider → Type 0
+AreExact plan patterns wider =
+    IsExactBy plan patterns (meaning wider.hir) wider.most wider.utf

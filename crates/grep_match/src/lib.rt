@@ -13,6 +13,6 @@ pub use ending::line_end;
 pub use found::{MatchList, Place};
 pub use modes::{Mode, is_matching, is_named, mode_of};
 pub use patterns::{PatternError, Patterns};
-pub use search::{Verdict, Workspace, search_line};
+pub use search::{Answer, Verdict, Workspace, first_answer, limits, search_line, shows_each};
 pub use unsearched::{Needed, needed_text};
 pub use wider::{Wider, wider_of};

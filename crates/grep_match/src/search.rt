@@ -33,7 +33,8 @@ pub enum Verdict {
 
 /// What one search answers.
 #[derive(Clone, Copy, Debug, PartialEq, Eq)]
-enum Answer {
+pub enum Answer {
+    /// Where the match stands.
     Found(Place),
     Nothing,
     /// The number of the match error.
@@ -46,7 +47,7 @@ pub struct Workspace {
     pub scratch: Scratch,
     pub found: MatchList,
     /// Whether the line is UTF-8, once a pattern has asked for it.
-    utf8: Option<bool>,
+    pub utf8: Option<bool>,
 }
 
 impl Workspace {
@@ -143,8 +144,9 @@ fn try_pattern(
     }
 }
 
-// Searches for the patterns in order. The first that doesn't answer that there is no match ends it.
-fn first_answer(
+/// Searches for the patterns in order, from a start on. The first that doesn't answer that there is no match ends it; a
+/// match is listed with the groups that are wanted.
+pub fn first_answer(
     codes: &[Code],
     line: &[u8],
     start: usize,
@@ -171,7 +173,7 @@ fn first_answer(
 }
 
 /// The limits of a plan.
-pub(crate) fn limits(plan: &GrepPlan) -> MatchOptions
+pub fn limits(plan: &GrepPlan) -> MatchOptions
     ensures { result ≡ limits plan.now }
 {
     MatchOptions {
@@ -214,7 +216,7 @@ fn later(
 }
 
 // Whether each match of a line is shown.
-fn shows_each(plan: &GrepPlan) -> bool
+pub fn shows_each(plan: &GrepPlan) -> bool
     ensures { result ≡ shows_each plan.now }
 {
     mode_of(plan) == Mode::Parts && !plan.invert_match

@@ -1,11 +1,12 @@
 //! Expressions that are found in each line that a pattern matches.
-ghost use Rattle.std.specs.Prelude.{◌≡◌, ◌++◌, ◌∷◌, [], IfOk, IfSome, OnOk};
+ghost use Rattle.std.specs.Prelude.{◌≡◌, ◌++◌, ◌∷◌, [], IfOk, IfSome, OnOk, false, true};
 ghost use Rattle.pat_tree.specs.declared.options.PartialMode.TheVariants.{Off};
 ghost use Rattle.grep_match.specs.Compiled.{patterns_in};
-ghost use Rattle.grep_match.specs.Wider.{NoneMatches, AreWider};
+ghost use Rattle.grep_match.specs.Matches.{shows_each};
+ghost use Rattle.grep_match.specs.Wider.{NoneMatches, SomeMatches, AreWider, AreExact};
 
 use crate::patterns::Patterns;
-use crate::search::limits;
+use crate::search::{limits, shows_each};
 use grep_args::GrepPlan;
 use pat_tree::Memory;
 use pcre2_api::{Code, MatchOptions};
@@ -24,6 +25,8 @@ pub struct Wider {
     pub most: u32,
     /// Whether it must be UTF-8 too: a search of another line gives an error.
     pub utf: bool,
+    /// Whether a line in which a match of it begins is known to have one.
+    pub is_exact: bool,
 }
 
 // Adds a branch to the others.
@@ -42,30 +45,56 @@ fn wider_within(
     most: u32,
 ) -> Result<Option<Wider>, Memory>
     requires { matching.now.«partial» ≡ Off }
-    ensures { IfOk result (λ o. IfSome o (NoneMatches matching.now (patterns_in codes.now))) }
+    ensures misses { IfOk result (λ o. IfSome o
+        (NoneMatches matching.now (patterns_in codes.now))) }
+    ensures finds { IfOk result (λ o. IfSome o (λ wider. wider.is_exact ≡ true
+        → SomeMatches matching.now (patterns_in codes.now) wider)) }
 {
     let mut branches = Vec::new(alloc);
     let mut utf = false;
+    let mut is_exact = true;
     for code in codes {
-        let Some(hir) = code.shape(alloc, most, matching)? else {
+        let Some(shape) = code.shape(alloc, most, matching)? else {
             return Ok(None);
         };
-        push(&mut branches, hir)?;
+        push(&mut branches, shape.hir)?;
         utf |= code.options().utf;
+        is_exact &= shape.is_exact;
     }
-    let hir = Hir::Alternation(branches);
-    Ok(Some(Wider { hir, most, utf }))
+    Ok(Some(Wider {
+        hir: Hir::Alternation(branches),
+        most,
+        utf,
+        is_exact,
+    }))
+}
+
+// Where each match of a line is shown it must be searched.
+fn for_plan(plan: &GrepPlan, mut wider: Wider) -> Wider
+    ensures hir { result.hir ≡ wider.hir }
+    ensures most { result.most ≡ wider.most }
+    ensures utf { result.utf ≡ wider.utf }
+    ensures exact { result.is_exact ≡ true → wider.is_exact ≡ true }
+    ensures first { result.is_exact ≡ true → shows_each plan.now ≡ false }
+{
+    if shows_each(plan) {
+        wider.is_exact = false;
+    }
+    wider
 }
 
 /// An expression that is found in each line that has a match, under the limits of the plan: a line before the one in
-/// which it is first found isn't searched. None where no such expression is known, or for want of memory.
+/// which it is first found isn't searched, nor where it is exact that line. None where no such expression is known, or
+/// for want of memory.
 pub fn wider_of(alloc: Global, plan: &GrepPlan, patterns: &Patterns) -> Option<Wider>
-    ensures { IfSome result (AreWider plan.now (patterns_in patterns.now)) }
+    ensures wider { IfSome result (AreWider plan.now (patterns_in patterns.now)) }
+    ensures exact { IfSome result (λ wider. wider.is_exact ≡ true
+        → AreExact plan.now (patterns_in patterns.now) wider) }
 {
     let matching = limits(plan);
     for most in LENGTHS {
         match wider_within(alloc, patterns.codes(), &matching, most) {
-            Ok(Some(wider)) => return Some(wider),
+            Ok(Some(wider)) => return Some(for_plan(plan, wider)),
             Ok(None) => {}
             Err(_) => return None,
         }

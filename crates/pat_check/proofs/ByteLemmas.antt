@@ -1,10 +1,12 @@
 -- First bytes of characters, and their folding to ASCII.
 use Rattle.std.proofs.Common.{◌≡◌, ◌⊎◌, inl, inr, ℕ, ◌+◌, ◌/◌, ◌%◌, ◌<◌, ◌≤◌, ◌||◌, ◌==◌, nat_lt, Bool, true, false}
-use Rattle.std.proofs.Common.{cond, [], ◌∷◌, refl, arith}
+use Rattle.std.proofs.Common.{◌∙◌, ◌&&◌, if◌then◌else◌, max, cond, [], ◌∷◌, refl, sym, ap, subst, arith}
 use Rattle.std.specs.Char.{encode_utf8}
 use Rattle.std.specs.Int.{is_in_range}
 use Rattle.std.proofs.Math.Bool.{or-true}
+use Rattle.std.proofs.lemmas.Bool.{eqb-true, eqb-false}
 use Rattle.std.proofs.lemmas.Bool.Decides.{nat_tests}
+use Rattle.byte_lanes.specs.Newlines.{newline_len, stands}
 use Rattle.byte_lanes.specs.declared.line_end.EndKind.TheVariants as kind
 use Rattle.pat_check.specs.Lead.{begins_with}
 use Rattle.pat_check.specs.Starts.{char_lead}
@@ -75,3 +77,19 @@ pub break_bytes : (b : ℕ) →
 break_bytes b =
     rw (flip b 13, flip b 10, flip b 11, flip b 12, flip b 194, flip b 226)
     (reordered (226 == b) (13 == b) (194 == b) (10 == b) (11 == b) (12 == b))
+
+-- all bytes but LF are no newline where LF is
+pub no_lf : (b : ℕ) → b < 256
+    → ((false || is_in_range 0 9 b) || is_in_range 11 255 b) ≡ (newline_len kind.Lf (b ∷ []) 0 == 0)
+unfolding stands
+no_lf b l = by_test (b == 10) refl
+  where
+    by_test : (t : Bool) → (b == 10) ≡ t
+        → ((false || is_in_range 0 9 b) || is_in_range 11 255 b) ≡ (newline_len kind.Lf (b ∷ []) 0 == 0)
+    by_test true e =
+        subst (λ x. ((false || is_in_range 0 9 x) || is_in_range 11 255 x) ≡ (newline_len kind.Lf (x ∷ []) 0 == 0))
+        (sym (eqb-true b 10 e)) refl
+    by_test false e =
+        let other = eqb-false b 10 e in
+        let inside : ((false || is_in_range 0 9 b) || is_in_range 11 255 b) ≡ true = grind (arith, nat_tests) in
+        inside ∙ sym (ap (λ t. max (if t && true then 1 else 0) 0 == 0) e)

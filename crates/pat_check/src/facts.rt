@@ -10,9 +10,9 @@ ghost use Rattle.node_flow.specs.Branches.{AreBranchesOf, branch_of};
 ghost use Rattle.node_flow.specs.Followers.{IsFlowOf, next_of};
 ghost use Rattle.node_flow.specs.Order.{AreRanks, order};
 ghost use Rattle.char_sets.specs.Table.{IsTableOf};
-ghost use Rattle.pat_lengths.specs.Backs.{AreBacks, first_fault, greatest_back, lengths_at};
+ghost use Rattle.pat_lengths.specs.Backs.{AreBacks, first_fault, greatest_back, lengths_at, lengths_back};
 ghost use Rattle.pat_lengths.specs.Lengths as lengths;
-ghost use Rattle.pat_lengths.specs.Lengths.{branch_fault, only};
+ghost use Rattle.pat_lengths.specs.Lengths.{branch_fault};
 ghost use Rattle.pat_lengths.specs.Nodes as nodes;
 ghost use Rattle.pat_lengths.specs.Nodes.{all_nodes};
 ghost use Rattle.pat_lengths.specs.Passing.{IsGroupTable, place_of};
@@ -30,7 +30,9 @@ use crate::survey::survey_of;
 use byte_lanes::ByteSet;
 use char_sets::ClassTable;
 use node_flow::{Branches, Flow, Ranks, preorder};
-use pat_lengths::{Backs, Groups, branch_spans, fault_in, greatest_in, group_table, passes_whole};
+use pat_lengths::{
+    Back, Backs, Groups, branch_spans, fault_in, greatest_in, group_table, passes_whole,
+};
 use pat_needs::{Need, need_of};
 use pat_tree::{Memory, NodeId, Tree};
 use std::alloc::Global;
@@ -106,12 +108,12 @@ impl Facts {
         self.groups.place(number)
     }
 
-    /// The length of a branch of a lookbehind, in characters: so far before its place it begins. Needs such a branch of
-    /// the tree that these facts are of (pcre2pattern, "Lookbehind assertions").
-    pub fn back(&self, branch: NodeId) -> u32
+    /// The least and the greatest length of a branch of a lookbehind, in characters: so far before its place it begins.
+    /// Needs such a branch of the tree that these facts are of (pcre2pattern, "Lookbehind assertions").
+    pub fn back(&self, branch: NodeId) -> Back
         requires { branch < length self.now.backs }
         ensures { (tree : TreeParts) → AreBacks tree self.now.backs
-            → branch_fault (lengths_at tree branch) ≡ None → lengths_at tree branch ≡ only result }
+            → branch_fault (lengths_at tree branch) ≡ None → lengths_at tree branch ≡ lengths_back result }
     {
         self.backs.of(branch)
     }

@@ -2,6 +2,7 @@
 ghost use Rattle.std.specs.Prelude.{◌≡◌, ℕ, ◌<◌, ◌||◌, ◌&&◌, ◌==◌, ◌∷◌, [], nat_le, true, All, length};
 ghost use Rattle.byte_lanes.specs.Sets.{has_byte};
 ghost use Rattle.byte_lanes.specs.Newlines.{newline_len};
+ghost use Rattle.byte_lanes.specs.declared.line_end.EndKind.TheVariants.{Lf};
 ghost use Rattle.uni_text.specs.Folding as unicode;
 ghost use Rattle.pat_tree.specs.Newlines.{end_kind};
 ghost use Rattle.pat_tree.specs.Rules.{class_in};
@@ -60,18 +61,19 @@ fn cased_bytes(c: u32, utf: bool) -> ByteSet
         return both_cases(c);
     }
     let mut bytes = ByteSet::empty();
+    let folded = fold(c);
     for b in 0..256u32 {
-        if folds_alike(c, b) {
+        if folds_to(folded, b) {
             bytes.insert(b as u8);
         }
     }
     bytes
 }
 
-fn folds_alike(c: u32, b: u32) -> bool
-    ensures { result ≡ (unicode.fold c == unicode.fold b) }
+fn folds_to(folded: u32, b: u32) -> bool
+    ensures { result ≡ (folded == unicode.fold b) }
 {
-    fold(c) == fold(b)
+    folded == fold(b)
 }
 
 /// The bytes that are no newline.
@@ -79,12 +81,25 @@ fn bytes_within_lines(newline: Newline, utf: bool) -> ByteSet
     ensures { (b : ℕ) → b < 256
         → has_byte result b ≡ (newline_len (end_kind newline utf) (b ∷ []) 0 == 0) }
 {
+    if let Newline::Lf = newline {
+        return all_but_lf();
+    }
     let mut bytes = ByteSet::empty();
     for b in 0..256u32 {
         if newline_at(&[b as u8], 0, newline, utf) == 0 {
             bytes.insert(b as u8);
         }
     }
+    bytes
+}
+
+/// The bytes that are no newline where LF is, as it mostly is.
+fn all_but_lf() -> ByteSet
+    ensures { (b : ℕ) → b < 256 → has_byte result b ≡ (newline_len Lf (b ∷ []) 0 == 0) }
+{
+    let mut bytes = ByteSet::empty();
+    add_range(&mut bytes, 0, b'\n' - 1);
+    add_range(&mut bytes, b'\n' + 1, 255);
     bytes
 }
 

@@ -187,7 +187,7 @@ module _ (whole : Nested) (trees : List Nested) (root m : ℕ) (places : List (O
   same_names (node.Ref groups caseless) = refl
   same_names _ = refl
 
-  under_is : (k : ℕ) (n : Node) → nest trees n ≡ tree_at trees k
+  pub under_is : (k : ℕ) (n : Node) → nest trees n ≡ tree_at trees k
       → All (λ j. is_test (tree_at trees j) ≡ true) (asserted_by n) → (q : ℕ → Bool) →
       list_any q (under k) ≡ (list_any q (names_of n) || list_any (λ j. list_any q (under j)) (kids_of n))
   under_is k n is tests q =
@@ -318,16 +318,16 @@ module _ (whole : Nested) (trees : List Nested) (root m : ℕ) (places : List (O
   ]
 
   abbrev ClosedIn : Reached → ℕ → Type 0
-  ClosedIn r k = Closed trees places m r k
+  ClosedIn r k = Closed trees places m r.seen.items k
 
   pub closed_more : (old new : Reached) → ((k : ℕ) → is_reached old k ≡ true → is_reached new k ≡ true) → (k : ℕ)
       → ClosedIn old k → ClosedIn new k
   closed_more old new kept k c q own below = c q (λ x e f. own x e (λ j p. kept j (f j p)))
       (λ j l h. below j l (kept j h))
 
-  module _ (r : Reached) (q : ℕ → Bool) where
+  module _ (seen : List Bool) (q : ℕ → Bool) where
     abbrev Got : ℕ → Type 0
-    Got j = is_reached r j ≡ true
+    Got j = flagged seen j ≡ true
 
     own_none : ((x : ℕ) → (x == m) ≡ false → ((j : ℕ) → place_of places x ≡ Some j → Got j) → q x ≡ false) →
         (ns : List ℕ) → list_any (λ x. x == m) ns ≡ false → All Got (places_of places ns) → list_any q ns ≡ false
@@ -339,7 +339,7 @@ module _ (whole : Nested) (trees : List Nested) (root m : ℕ) (places : List (O
         (left Got (number_in (place_of places x)) (places_of places xs) a))))
         (own_none f xs parts.1 (right Got (number_in (place_of places x)) (places_of places xs) a))
 
-    kids_none : (k : ℕ) → ((j : ℕ) → j < k → Got j → list_any q (under j) ≡ false) → (ks : List ℕ)
+    pub kids_none : (k : ℕ) → ((j : ℕ) → j < k → Got j → list_any q (under j) ≡ false) → (ks : List ℕ)
         → All (λ j. j < k) ks → All Got ks → list_any (λ j. list_any q (under j)) ks ≡ false
     kids_none k g [] below a = refl
     kids_none k g (j ∷ js) below a =
@@ -353,9 +353,9 @@ module _ (whole : Nested) (trees : List Nested) (root m : ℕ) (places : List (O
   closed_now r k n is tests below none all q own kids =
       under_is k n is tests q
       ∙ or_from (list_any q (names_of n)) _
-      (own_none r q own (names_of n) none (right (λ j. is_reached r j ≡ true) (kids_of n)
+      (own_none r.seen.items q own (names_of n) none (right (λ j. is_reached r j ≡ true) (kids_of n)
       (places_of places (names_of n)) all))
-      (kids_none r q k kids (kids_of n) below (left (λ j. is_reached r j ≡ true) (kids_of n)
+      (kids_none r.seen.items q k kids (kids_of n) below (left (λ j. is_reached r j ≡ true) (kids_of n)
       (places_of places (names_of n)) all))
 
   pub closed_on : (old new : Reached) (ids : List ℕ) (i d : ℕ) → Grows old new ids → i < length old.nodes.items
@@ -367,28 +367,28 @@ module _ (whole : Nested) (trees : List Nested) (root m : ℕ) (places : List (O
       (All-more (ClosedIn new) old.nodes.items i d lt
       (All-weaker (ClosedIn old) (ClosedIn new) (closed_more old new g.kept) (take i old.nodes.items) all) here)
 
-  -- Where all that is reached is closed, nothing leads back.
-  module _ (r : Reached) (closed : (k : ℕ) → is_reached r k ≡ true → ClosedIn r k) where
+  -- Where all that has a flag is closed, nothing leads back.
+  module _ (seen : List Bool) (closed : (k : ℕ) → flagged seen k ≡ true → Closed trees places m seen k) where
     abbrev Before : ℕ → Type 0
-    Before d = (j : ℕ) → is_reached r j ≡ true → lead_to whole d (under j) m ≡ false
+    Before d = (j : ℕ) → flagged seen j ≡ true → lead_to whole d (under j) m ≡ false
 
-    never : (d k : ℕ) → is_reached r k ≡ true → lead_to whole d (under k) m ≡ false
+    never : (d k : ℕ) → flagged seen k ≡ true → lead_to whole d (under k) m ≡ false
     never zero k h = none_yet (under k)
     never (suc d) k h = next whole m d (under k) ∙ below (λ j g. never d j g) (suc k) k (omega arith) h
       where
         by_place : Before d → (x : ℕ) (o : Option ℕ) → place_of places x ≡ o
-            → ((j : ℕ) → place_of places x ≡ Some j → is_reached r j ≡ true) → leads whole m d x ≡ false
+            → ((j : ℕ) → place_of places x ≡ Some j → flagged seen j ≡ true) → leads whole m d x ≡ false
         by_place before x None e f = no_group d x e
         by_place before x (Some j) e f = ap (λ ns. lead_to whole d ns m) (at_place x j e) ∙ before j (f j e)
 
-        below : Before d → (n k : ℕ) → k < n → is_reached r k ≡ true → list_any (asks d) (under k) ≡ false
+        below : Before d → (n k : ℕ) → k < n → flagged seen k ≡ true → list_any (asks d) (under k) ≡ false
         below before zero k lt h = absurd (omega (arith, lt))
         below before (suc n) k lt h =
             closed k h (asks d) (λ x e f. or_from (x == m) (leads whole m d x) e
             (by_place before x (place_of places x) refl f))
             (λ j l g. below before n j (omega (arith, l, lt)) g)
 
-    pub nowhere : ((k : ℕ) → place_of places m ≡ Some k → is_reached r k ≡ true) → leads_back whole m ≡ false
+    pub nowhere : ((k : ℕ) → place_of places m ≡ Some k → flagged seen k ≡ true) → leads_back whole m ≡ false
     nowhere start = by_place (place_of places m) refl
       where
         by_place : (o : Option ℕ) → place_of places m ≡ o → leads whole m (suc (captures whole)) m ≡ false
@@ -399,5 +399,5 @@ module _ (whole : Nested) (trees : List Nested) (root m : ℕ) (places : List (O
   pub at_end : (r : Reached) (n : ℕ) → IsListed r → length r.nodes.items ≤ n → All (ClosedIn r) (take n r.nodes.items) →
       ((k : ℕ) → place_of places m ≡ Some k → is_reached r k ≡ true) → leads_back whole m ≡ false
   at_end r n l le all start =
-      nowhere r (λ k e. All-contains (ClosedIn r) r.nodes.items k
+      nowhere r.seen.items (λ k e. All-contains (ClosedIn r) r.nodes.items k
       (subst (All (ClosedIn r)) (take_all n r.nodes.items le) all) (l.listed k e)) start

@@ -1,6 +1,7 @@
 mod LengthLaw
 mod LeastLaw
 pub mod CountLemmas
+pub mod BackLemmas
 pub mod OrderLemmas
 pub mod OtherNodes
 pub mod PassLemmas
@@ -13,3 +14,5 @@ pub mod SpanLemmas
 pub mod Placing
 pub mod LeadingStable
 pub mod LeadingLemmas
+pub mod EndingLemmas
+pub mod PlainLemmas

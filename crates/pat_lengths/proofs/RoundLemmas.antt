@@ -72,7 +72,7 @@ lost whole m d n h = ap (λ o. lead_to whole d (named_in_group o) m) h ∙ none_
 
 -- a group that names no other leads nowhere
 
-nothing_named : (ns : List ℕ) → list_any (λ n. true) ns ≡ false → ns ≡ []
+pub nothing_named : (ns : List ℕ) → list_any (λ n. true) ns ≡ false → ns ≡ []
 nothing_named [] h = refl
 nothing_named (n ∷ ns) h = absurd cc
 

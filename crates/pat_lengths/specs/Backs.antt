@@ -1,7 +1,7 @@
 -- The branches of a pattern's lookbehinds: how far each begins before its place, and why a pattern is refused for them
 -- (pcre2pattern, "Lookbehind assertions").
 use Rattle.std.specs.Prelude.{◌≡◌, ◌≤◌, ℕ, ◌+◌, pos, true, false, max, List, [], ◌∷◌, length, Option, Some, None}
-use Rattle.std.specs.Prelude.{slice_index_or}
+use Rattle.std.specs.Prelude.{map, slice_index_or}
 use Rattle.std.specs.Option.{option_or}
 use Rattle.pat_tree.specs.declared.nodes.Node.{Node}
 use Rattle.pat_tree.specs.declared.nodes.Node.TheVariants as form
@@ -9,8 +9,9 @@ use Rattle.pat_tree.specs.declared.nodes.Placed.{Placed}
 use Rattle.pat_tree.specs.Nested.{trees, tree_at}
 use Rattle.pat_tree.specs.Parts.{TreeParts, tree_of}
 use Rattle.node_flow.specs.Order.{order}
-use Rattle.pat_lengths.specs.Lengths.{SomeLengths, counted, only, branch_lengths, branch_fault}
+use Rattle.pat_lengths.specs.Lengths.{SomeLengths, counted, between, branch_lengths, branch_fault}
 use Rattle.pat_lengths.specs.Spans.{kept, span_at}
+use Rattle.pat_lengths.specs.declared.backs.Back.{Back}
 use Rattle.pat_lengths.specs.declared.backs.LengthFault.{LengthFault}
 use Rattle.pat_lengths.specs.declared.spans.Span.{Span}
 
@@ -29,15 +30,38 @@ abbrev pub fault_from : ℕ → Option ℕ → Option LengthFault
 fault_from at None = None
 fault_from at (Some number) = Some (record { number = pos number; at = at })
 
--- the length of a branch, where it has one
+-- the greatest length of a branch, where it has one
 abbrev pub length_of : SomeLengths → ℕ
 length_of None = 0
-length_of (Some a) = counted a.least
+length_of (Some a) = of_most a.most
+  where
+    of_most : Option ℕ → ℕ
+    of_most None = 0
+    of_most (Some most) = counted most
 
--- as it is kept
-abbrev pub span_length : Option Span → ℕ
-span_length None = 0
-span_length (Some span) = span.least
+-- as they are kept: where there is no greatest length, none
+abbrev pub no_back : Back
+no_back = record { least = 0; most = 0 }
+
+abbrev pub back_of : Option Span → Back
+back_of None = no_back
+back_of (Some span) = of_most span.most
+  where
+    of_most : Option ℕ → Back
+    of_most None = no_back
+    of_most (Some most) = record { least = span.least; most = most }
+
+-- the lengths that are kept of a branch
+abbrev pub lengths_back : Back → SomeLengths
+lengths_back back = between back.least (Some back.most)
+
+-- the greatest lengths of a list
+abbrev pub mosts : List Back → List ℕ
+mosts = map (λ (b : Back). b.most)
+
+-- the lengths that a list has for a branch
+abbrev pub back_at : List Back → ℕ → Back
+back_at backs k = slice_index_or backs k no_back
 
 module _ (tree : TreeParts) where
   -- the lengths of the part of this number, as a branch of a lookbehind
@@ -74,11 +98,11 @@ module _ (tree : TreeParts) where
   abbrev pub greatest_back : ℕ
   greatest_back = greatest_in (order tree.nodes tree.root)
 
-  -- a list that has the length of each part up to the root that is not refused as a branch
-  pub record AreBacks (backs : List ℕ) : Type 0 where
+  -- a list that has the lengths of each part up to the root that is not refused as a branch
+  pub record AreBacks (backs : List Back) : Type 0 where
     pub count : length backs ≡ tree.root + 1
     pub each : (k : ℕ) → k ≤ tree.root → branch_fault (lengths_at k) ≡ None
-        → lengths_at k ≡ only (slice_index_or backs k 0)
+        → lengths_at k ≡ lengths_back (back_at backs k)
 
   -- what is kept of each part up to the root is its lengths as a branch
   pub record AreBranches (spans : List (Option Span)) : Type 0 where

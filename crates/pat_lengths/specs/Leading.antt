@@ -65,10 +65,10 @@ pub record Comes (whole : Nested) (m : ℕ) : Type 0 where
 abbrev pub Leads : Nested → List Nested → ℕ → ℕ → Type 0
 Leads whole trees m k = (d : ℕ) → lead_to whole d (under_node trees k) m ≡ true → Comes whole m
 
--- What is named under a node is another group, whose node is reached, or is named under a child that is reached.
-abbrev pub Closed : List Nested → List (Option ℕ) → ℕ → Reached → ℕ → Type 0
-Closed trees places m r k =
+-- What is named under a node is another group, whose node has a flag, or is named under a child that has one.
+abbrev pub Closed : List Nested → List (Option ℕ) → ℕ → List Bool → ℕ → Type 0
+Closed trees places m seen k =
     (q : ℕ → Bool)
-    → ((x : ℕ) → (x == m) ≡ false → ((j : ℕ) → place_of places x ≡ Some j → is_reached r j ≡ true) → q x ≡ false)
-    → ((j : ℕ) → j < k → is_reached r j ≡ true → list_any q (under_node trees j) ≡ false)
+    → ((x : ℕ) → (x == m) ≡ false → ((j : ℕ) → place_of places x ≡ Some j → flagged seen j ≡ true) → q x ≡ false)
+    → ((j : ℕ) → j < k → flagged seen j ≡ true → list_any q (under_node trees j) ≡ false)
     → list_any q (under_node trees k) ≡ false

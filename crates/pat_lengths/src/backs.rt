@@ -3,8 +3,9 @@ ghost use Rattle.std.specs.Prelude.{◌≡◌, ℕ, ◌<◌, ◌≤◌, All, IfO
 ghost use Rattle.pat_tree.specs.Parts.{TreeParts};
 ghost use Rattle.pat_tree.specs.declared.nodes.Placed.{Placed};
 ghost use Rattle.pat_lengths.specs.Backs as lookbehinds;
-ghost use Rattle.pat_lengths.specs.Backs.{AreBacks, AreBranches, behind_branches, fault_from, lengths_at, span_length};
-ghost use Rattle.pat_lengths.specs.Lengths.{SomeLengths, branch_fault, only};
+ghost use Rattle.pat_lengths.specs.Backs.{AreBacks, AreBranches, back_at, back_of, behind_branches, fault_from};
+ghost use Rattle.pat_lengths.specs.Backs.{lengths_at, lengths_back, mosts};
+ghost use Rattle.pat_lengths.specs.Lengths.{SomeLengths, branch_fault, too_different};
 ghost use Rattle.pat_lengths.specs.Spans.{kept};
 
 use crate::spans::Span;
@@ -18,6 +19,17 @@ const NO_ONE_LENGTH: i32 = 125;
 /// A branch of a lookbehind is too long.
 const BRANCH_TOO_LONG: i32 = 187;
 
+/// The lengths of a branch may differ where the greatest is less than this.
+const DIFFERING: u32 = 0;
+
+/// How far before its place a branch of a lookbehind begins, in characters: from the greatest of its lengths down to
+/// the least (pcre2pattern, "Lookbehind assertions").
+#[derive(Clone, Copy, Debug, PartialEq, Eq)]
+pub struct Back {
+    pub least: u32,
+    pub most: u32,
+}
+
 /// A lookbehind is refused, with the number of the fault and the place of its parenthesis.
 #[derive(Clone, Copy, Debug, PartialEq, Eq)]
 pub struct LengthFault {
@@ -26,16 +38,17 @@ pub struct LengthFault {
     pub at: u32,
 }
 
-/// For each part of a pattern its length as a branch of a lookbehind.
+/// For each part of a pattern its lengths as a branch of a lookbehind.
 #[derive(Debug, Drop)]
 pub struct Backs {
-    lengths: Vec<u32>,
+    lengths: Vec<Back>,
 }
 
 impl Model for Backs {
-    ghost use Rattle.std.specs.Prelude.{ℕ, List};
+    ghost use Rattle.std.specs.Prelude.{List};
+    ghost use Rattle.pat_lengths.specs.declared.backs.Back.{Back};
 
-    ghost Value = { List ℕ };
+    ghost Value = { List Back };
 
     ghost view = { λ backs. backs.lengths.items };
 }
@@ -47,30 +60,43 @@ impl Backs {
     {
         let mut lengths = Vec::with_capacity(alloc, spans.len())?;
         for span in spans {
-            lengths.push(length_of(*span))?;
+            lengths.push(back_of(*span))?;
         }
         Ok(Backs { lengths })
     }
 
-    /// The length of a branch of a lookbehind, in characters: so far before its place it begins. Needs such a branch of
-    /// the tree that these are of (pcre2pattern, "Lookbehind assertions").
-    pub fn of(&self, branch: NodeId) -> u32
+    /// The lengths of a branch of a lookbehind. Needs such a branch of the tree that these are of (pcre2pattern,
+    /// "Lookbehind assertions").
+    pub fn of(&self, branch: NodeId) -> Back
         requires { branch < length self.now }
-        ensures is { result ≡ slice_index_or self.now branch 0 }
-        ensures length { (tree : TreeParts) → AreBacks tree self.now
-            → branch_fault (lengths_at tree branch) ≡ None → lengths_at tree branch ≡ only result }
+        ensures is { result ≡ back_at self.now branch }
+        ensures lengths { (tree : TreeParts) → AreBacks tree self.now
+            → branch_fault (lengths_at tree branch) ≡ None → lengths_at tree branch ≡ lengths_back result }
     {
         self.lengths[branch as usize]
     }
+
+    /// The greatest length of a branch of a lookbehind, in characters. Needs what `of` needs.
+    pub fn most(&self, branch: NodeId) -> u32
+        requires { branch < length self.now }
+        ensures { result ≡ slice_index_or (mosts self.now) branch 0 }
+    {
+        self.of(branch).most
+    }
 }
 
-/// The length of a part that has one. A length past 32 bits counts as the greatest number.
-fn length_of(span: Option<Span>) -> u32
-    ensures { result ≡ span_length span }
+/// The lengths of a part that has a greatest one. A length past 32 bits counts as the greatest number.
+fn back_of(span: Option<Span>) -> Back
+    ensures { result ≡ back_of span }
 {
     match span {
-        Some(span) => span.least,
-        None => 0,
+        Some(
+            Span {
+                least,
+                most: Some(most),
+            },
+        ) => Back { least, most },
+        _ => Back { least: 0, most: 0 },
     }
 }
 
@@ -91,10 +117,7 @@ fn fault_of(at: u32, span: Option<Span>) -> Option<LengthFault>
         });
     };
     if least != most {
-        return Some(LengthFault {
-            number: NO_ONE_LENGTH,
-            at,
-        });
+        return differing_fault(at, most);
     }
     if most > 65535 {
         return Some(LengthFault {
@@ -103,6 +126,19 @@ fn fault_of(at: u32, span: Option<Span>) -> Option<LengthFault>
         });
     }
     None
+}
+
+/// The fault of a branch whose lengths differ, by the greatest.
+fn differing_fault(at: u32, most: u32) -> Option<LengthFault>
+    ensures { result ≡ fault_from at (too_different most) }
+{
+    if most < DIFFERING {
+        return None;
+    }
+    Some(LengthFault {
+        number: NO_ONE_LENGTH,
+        at,
+    })
 }
 
 /// The first fault among these parts, which stand in the pattern's order.
@@ -182,7 +218,7 @@ fn greatest_of(branches: &[NodeId], spans: &[Option<Span>]) -> u32
     let mut i = branches.len();
     while i > 0 {
         i -= 1;
-        greatest = length_of(spans[branches[i] as usize]).max(greatest);
+        greatest = back_of(spans[branches[i] as usize]).most.max(greatest);
     }
     greatest
 }

@@ -1,5 +1,6 @@
 // The lengths of a pattern's parts as branches of lookbehinds.
-ghost use Rattle.std.specs.Prelude.{◌≡◌, ℕ, suc, ◌+◌, ◌<◌, ◌||◌, true, if◌then◌else◌, All, List, [], IfOk, length};
+ghost use Rattle.std.specs.Prelude.{◌≡◌, ℕ, suc, ◌+◌, ◌<◌, ◌||◌, true, false, if◌then◌else◌, All, List, [], IfOk};
+ghost use Rattle.std.specs.Prelude.{length};
 ghost use Rattle.std.specs.List.{list_any};
 ghost use Rattle.pat_tree.specs.Nested.{Nested, trees, tree_at, nest};
 ghost use Rattle.pat_tree.specs.Parts.{tree_of};
@@ -7,17 +8,18 @@ ghost use Rattle.pat_tree.specs.Rules.{kids_of, asserted_by, is_test};
 ghost use Rattle.pat_lengths.specs.Backs.{AreBranches};
 ghost use Rattle.pat_lengths.specs.Lengths as lengths;
 ghost use Rattle.pat_lengths.specs.Nodes.{is_accept, nodes_outside_lookarounds};
-ghost use Rattle.pat_lengths.specs.Passing.{IsGroupTable, flagged, place_of};
+ghost use Rattle.pat_lengths.specs.Passing.{IsGroupTable, flagged, passes_at, place_of};
 ghost use Rattle.pat_lengths.specs.Rounds.{KeepAnswers};
-ghost use Rattle.pat_lengths.specs.Spans.{AreBehind, KeepAccepts, kept, span_at, span_in};
+ghost use Rattle.pat_lengths.specs.Spans.{AreBehind, KeepAccepts, KeepSpans, kept, span_at, span_in};
 
 use crate::accepts::is_accept;
+use crate::endings::endings_of;
 use crate::groups::Groups;
 use crate::kids::{has_flag, some_kid};
 use crate::leading::comes_back;
 use crate::lengths::spans_of;
 use crate::passing::has_any_length;
-use crate::rounds::{Question, flag_at, node_answers};
+use crate::rounds::{Question, flag_at, names_groups, node_answers};
 use crate::spans::{Span, any_length, is_same};
 use pat_tree::{Memory, Node, NodeId, Tree};
 use std::alloc::Global;
@@ -31,12 +33,35 @@ pub fn branch_spans(
     requires { IsGroupTable (trees tree.now.nodes) tree.now.root (tree_of tree.now) groups.now }
     ensures { IfOk result (λ spans. AreBranches tree.now spans.items) }
 {
-    let any = has_any_length(tree, groups);
+    let spans = settled_spans(alloc, tree, groups, has_any_length(tree, groups))?;
+    let accepts = accepts_of(alloc, tree)?;
+    freed(alloc, &spans, &accepts)
+}
+
+/// The lengths of each part, ACCEPT apart. Where no group is named, the groups' lengths don't count.
+fn settled_spans(
+    alloc: Global,
+    tree: &Tree,
+    groups: &Groups,
+    any: bool,
+) -> Result<Vec<Option<Span>>, Memory>
+    requires table { IsGroupTable (trees tree.now.nodes) tree.now.root (tree_of tree.now)
+        groups.now }
+    requires any { any ≡ (tree.now.options.match_unset_backref || groups.now.shared) }
+    ensures count { IfOk result (λ spans. length spans.items ≡ tree.now.root + 1) }
+    ensures kept { IfOk result (λ spans.
+        KeepSpans (lengths.lengths tree.now.options.match_unset_backref (tree_of tree.now)
+        (lengths.behind tree.now.options.match_unset_backref (tree_of tree.now)
+        (suc groups.now.count))) (trees tree.now.nodes) spans.items) }
+{
+    if !names_groups(tree) {
+        let spans = spans_of(alloc, tree, any, &[])?;
+        return Ok(spans);
+    }
     let back = leads_back(alloc, tree, groups)?;
     let of_groups = settled(alloc, tree, groups, any, &back)?;
     let spans = spans_of(alloc, tree, any, &of_groups)?;
-    let accepts = accepts_of(alloc, tree)?;
-    freed(alloc, &spans, &accepts)
+    Ok(spans)
 }
 
 /// Of each part the lengths, or any where it is freed.
@@ -62,29 +87,37 @@ fn leads_back(alloc: Global, tree: &Tree, groups: &Groups) -> Result<Vec<bool>, 
         (n : ℕ) → flagged back.items n ≡ lengths.leads_back (tree_of tree.now) n) }
 {
     let names = node_answers(alloc, tree, Question::Names, &[])?;
+    let ending = endings_of(alloc, tree, groups)?;
     let mut back = Vec::with_capacity(alloc, groups.places.len())?;
     for target in 0..groups.places.len() {
-        back.push(leads_to_itself(alloc, tree, groups, &names, target)?)?;
+        back.push(leads_to_itself(alloc, tree, groups, &names, &ending, target)?)?;
     }
     Ok(back)
 }
 
-/// Whether a group leads back to itself, where it is known which nodes name groups. One that names no other leads
-/// nowhere, and needs no search.
+/// Whether a group leads back to itself, where it is known which nodes name groups, and from which each way ends. One
+/// that names no other leads nowhere, and needs no search.
 fn leads_to_itself(
     alloc: Global,
     tree: &Tree,
     groups: &Groups,
     names: &[bool],
+    ending: &[bool],
     target: usize,
 ) -> Result<bool, Memory>
     requires table { IsGroupTable (trees tree.now.nodes) tree.now.root (tree_of tree.now)
         groups.now }
     requires count { length names.now ≡ tree.now.root + 1 }
     requires kept { KeepAnswers Question.Names [] (trees tree.now.nodes) names.now }
+    requires ending { passes_at ending.now (place_of groups.now.places.items target) ≡ true
+        → lengths.leads_back (tree_of tree.now) target ≡ false }
     ensures { IfOk result (λ back. back ≡ lengths.leads_back (tree_of tree.now) target) }
 {
-    if !flag_at(names, place_at(&groups.places, target)) {
+    let place = place_at(&groups.places, target);
+    if !flag_at(names, place) {
+        return Ok(false);
+    }
+    if flag_at(ending, place) {
         return Ok(false);
     }
     comes_back(alloc, tree, groups, target)

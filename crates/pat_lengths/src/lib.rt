@@ -6,6 +6,7 @@ mod accepts;
 mod backs;
 mod behind;
 mod counts;
+mod endings;
 mod groups;
 mod kids;
 mod laws;
@@ -16,7 +17,7 @@ mod rounds;
 mod spans;
 
 pub use accepts::is_accept;
-pub use backs::{Backs, LengthFault, fault_in, greatest_in};
+pub use backs::{Back, Backs, LengthFault, fault_in, greatest_in};
 pub use behind::branch_spans;
 pub use counts::{product, sum};
 pub use groups::{Groups, group_table};

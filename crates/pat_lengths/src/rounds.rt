@@ -1,15 +1,15 @@
 // What is asked of each group, where its answer depends on those of the groups that it names.
-ghost use Rattle.std.specs.Prelude.{◌≡◌, ℕ, suc, ◌+◌, ◌<◌, ◌||◌, true, All, List, [], IfOk, length};
-ghost use Rattle.std.specs.List.{list_all};
+ghost use Rattle.std.specs.Prelude.{◌≡◌, ℕ, suc, ◌+◌, ◌<◌, ◌≤◌, ◌||◌, true, false, All, List, [], IfOk, length};
 ghost use Rattle.pat_tree.specs.Groups.{group_of};
 ghost use Rattle.pat_tree.specs.Nested.{Nested, trees, tree_at, nest};
 ghost use Rattle.pat_tree.specs.Parts.{tree_of};
 ghost use Rattle.pat_tree.specs.Rules.{kids_of, asserted_by, is_test, IsOrdered};
+ghost use Rattle.pat_lengths.specs.Nodes.{named_by, named_in};
 ghost use Rattle.pat_lengths.specs.Passing.{IsAt, flagged, place_of, passes_at, ref_passes, condition_passes, passes};
 ghost use Rattle.pat_lengths.specs.Rounds.{KeepAnswers, AreRounds, answer};
 
 use crate::groups::Groups;
-use crate::kids::{has_flag, some_flag, some_kid};
+use crate::kids::{every_flag, has_flag, some_flag, some_kid};
 use pat_tree::{Cond, Memory, Node, NodeId, Tree};
 use std::alloc::Global;
 
@@ -125,7 +125,7 @@ fn node_passes(node: &Node, any: bool, can: &[bool], passing: &[bool]) -> bool
     match node {
         Node::One(_) => false,
         Node::Break => false,
-        Node::Seq(kids) => all_pass(kids.as_slice(), passing),
+        Node::Seq(kids) => every_flag(kids.as_slice(), passing),
         Node::Group { branches, .. } => some_flag(branches.as_slice(), passing),
         Node::Repeat { body, min, .. } => *min == 0 || has_flag(passing, *body as usize),
         Node::OneRepeat { min, .. } => *min == 0,
@@ -135,12 +135,6 @@ fn node_passes(node: &Node, any: bool, can: &[bool], passing: &[bool]) -> bool
         Node::Ref { groups, .. } => ref_passes(groups.as_slice(), any, can),
         _ => true,
     }
-}
-
-fn all_pass(kids: &[NodeId], passing: &[bool]) -> bool
-    ensures { result ≡ list_all (flagged passing.now) kids.now }
-{
-    kids.iter().all(|id| has_flag(passing, *id as usize))
 }
 
 /// A definition is passed.
@@ -174,5 +168,28 @@ fn node_names(node: &Node, naming: &[bool]) -> bool
         Node::Call { .. } => true,
         Node::Ref { groups, .. } => groups.len() > 0,
         _ => some_kid(node, naming),
+    }
+}
+
+/// Whether a call or a reference up to the root names a group.
+pub(crate) fn names_groups(tree: &Tree) -> bool
+    ensures { result ≡ false → (k : ℕ) → k ≤ tree.now.root
+        → named_in (tree_at (trees tree.now.nodes) k) ≡ [] }
+{
+    for id in 0..tree.root() as u64 + 1 {
+        if is_naming(tree.node(id as u32)) {
+            return true;
+        }
+    }
+    false
+}
+
+fn is_naming(node: &Node) -> bool
+    ensures { (trees : List Nested) → result ≡ false → named_by (nest trees node.now) ≡ [] }
+{
+    match node {
+        Node::Call { .. } => true,
+        Node::Ref { .. } => true,
+        _ => false,
     }
 }

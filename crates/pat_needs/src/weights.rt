@@ -9,8 +9,25 @@ pub(crate) const ANY: u32 = 400;
 // A set that is more common than this is of no use, since most lines have one of its bytes.
 pub(crate) const COMMON: u32 = 100;
 
+// The most common bytes, by which most sets that are of no use are told.
+const COMMONEST: [u8; 11] = *b" etaoinsrlh";
+
+/// Whether the most common bytes of a set alone are more common than a set of use.
+fn is_common(bytes: &ByteSet) -> bool {
+    let mut weight = 0u32;
+    for b in COMMONEST {
+        if bytes.has(b) {
+            weight = weight.saturating_add(commonness(b));
+        }
+    }
+    weight > COMMON
+}
+
 /// How common the bytes of a set are, where they are rare enough.
 pub(crate) fn weight_of(bytes: &ByteSet) -> Option<u32> {
+    if is_common(bytes) {
+        return None;
+    }
     let mut weight = 0u32;
     for b in 0..256u32 {
         if bytes.has(b as u8) {

@@ -25,7 +25,8 @@ use Rattle.regex_hir.specs.declared.look.Look.{Look}
 use Rattle.regex_hir.specs.declared.look.Look.TheVariants.{StartLf, EndLf, WordAscii, WordAsciiNegate}
 use Rattle.regex_hir.specs.Re.{Re, empty, look}
 use Rattle.regex_hir.proofs.TextLemmas.{byte_before-zero, byte_before-add-one}
-use Rattle.pat_shape.specs.IsShape.{IsSearchOf, IsAnchorShape}
+use Rattle.pat_shape.specs.Searches.{IsSearchOf}
+use Rattle.pat_shape.specs.IsShape.{IsAnchorShape}
 use Rattle.pat_shape.proofs.Looks.{beside, word_beside, start_is, end_is, word_is, not_word_is}
 
 begins : (hay : List ℕ) (p : ℕ) → p ≡ 0 → holds StartLf hay p ≡ true
@@ -35,7 +36,7 @@ ends_there : (hay : List ℕ) (p : ℕ) → length hay ≤ p → holds EndLf hay
 ends_there hay p past = end_is hay p ∙ ap beside (slice_get_past hay p past)
 
 -- an LF stands there
-lf_at : (hay : List ℕ) (p : ℕ) → nat_lt 0 (newline_len kinds.Lf hay p) ≡ true
+pub lf_at : (hay : List ℕ) (p : ℕ) → nat_lt 0 (newline_len kinds.Lf hay p) ≡ true
     → (p < length hay) × (slice_index hay p ≡ 10)
 lf_at hay p h = by_stand (stands (10 ∷ []) hay p) refl
   where
@@ -91,7 +92,7 @@ module _ (parts : TreeParts) (lined : Bool) where
 
   -- where lines end by LF alone
   module _ (by_lf : parts.options.newline ≡ newline.Lf) where
-    kind_is : (g : Setting) → IsSearchOf parts lined g → end_kind g.options.newline g.options.utf ≡ kinds.Lf
+    pub kind_is : (g : Setting) → IsSearchOf parts lined g → end_kind g.options.newline g.options.utf ≡ kinds.Lf
     kind_is g h = ap (λ n. end_kind n g.options.utf) (ap (λ o. o.newline) h.options ∙ by_lf)
 
     at_lf : (g : Setting) → IsSearchOf parts lined g → (p : ℕ) → nat_lt 0 (items.newline_at g.scene p) ≡ true

@@ -17,8 +17,9 @@ use Rattle.regex_hir.specs.Re.{Re, empty, byte_in, alt}
 use Rattle.regex_hir.specs.Matches.{Matches}
 use Rattle.regex_hir.specs.Meaning.{cat_all, alt_all}
 use Rattle.pat_shape.specs.Wide.{Only}
-use Rattle.pat_shape.specs.IsShape.{IsSearchOf, IsWider, AreShapes, IsItemShape, IsAnchorShape, IsAnyText}
-use Rattle.pat_shape.specs.IsShape.{IsOtherShape, IsPlainTest, GoesOn, IsUpTo, AreRounds}
+use Rattle.pat_shape.specs.Searches.{IsSearchOf}
+use Rattle.pat_shape.specs.IsShape.{IsWider, AreShapes, IsItemShape, IsAnchorShape, IsAnyText, IsOtherShape}
+use Rattle.pat_shape.specs.IsShape.{IsPlainTest, GoesOn, IsUpTo, AreRounds}
 use Rattle.pat_shape.proofs.Turns.{repeat_turns}
 use Rattle.pat_shape.proofs.OnlyStreams.{only_end, only_gives, only_wider}
 use Rattle.pat_shape.proofs.WideSearch.{Wide, Counted, Anywhere, wide_one, wide_many, wide_cat, wide_left}
@@ -105,14 +106,14 @@ module _ (parts : TreeParts) (lined : Bool) where
   pub shape_one : (item : Item) (re : Re) → IsItemShape parts lined item re → Wider (tree.one item) re
   unfolding run level
   shape_one item re k g h zero s on = only_end _ (by_halt cut)
-  shape_one item re k g h (suc d) s on = wide_one g h.text item re (k.1 g h) s on
+  shape_one item re k g h (suc d) s on = wide_one g h.text item re (k.wider g h) s on
 
   pub shape_many : (item : Item) (a re : Re) (low : ℕ) (high : Option ℕ) (lazily : Bool)
       → IsItemShape parts lined item a → AreRounds low high a re → Wider (tree.one_repeat item low high lazily) re
   unfolding run level
   shape_many item a re low high lazily k r g h zero s on = only_end _ (by_halt cut)
   shape_many item a re low high lazily k r g h (suc d) s on =
-      rounds_wide g h a re low high r s _ (wide_many g h.text item a (k.1 g h) low high lazily s on)
+      rounds_wide g h a re low high r s _ (wide_many g h.text item a (k.wider g h) low high lazily s on)
 
   pub shape_seq : (ts : List Nested) (res : List Re) → AreShapes parts lined ts res
       → Wider (tree.seq (row ts)) (cat_all res)

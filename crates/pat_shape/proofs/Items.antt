@@ -1,14 +1,16 @@
 -- Shapes of items, of simple assertions and of any text.
 use Rattle.std.proofs.Common.{◌≡◌, ◌≢◌, ◌∙◌, ℕ, zero, suc, ◌+◌, ◌-◌, ◌<◌, ◌≤◌, Bool, true, false, List, [], ◌∷◌}
-use Rattle.std.proofs.Common.{◌++◌, length, drop, take-append-drop, get_or, Option, Some, None, inl, inr, refl, sym}
-use Rattle.std.proofs.Common.{ap, subst, arith}
-use Rattle.std.specs.Prelude.{IsTrue, slice_index, encode_utf8}
+use Rattle.std.proofs.Common.{◌++◌, length, drop, take-append-drop, get_or, Option, Some, None, ◌⊎◌, inl, inr, refl}
+use Rattle.std.proofs.Common.{sym, ap, subst, arith}
+use Rattle.std.specs.Prelude.{IsTrue, slice_get, slice_index, encode_utf8, ◌==◌}
 use Rattle.std.specs.Char.{IsScalar, len_utf8}
+use Rattle.std.proofs.lemmas.Str.{len_utf8_bounds}
 use Rattle.std.proofs.Math.Utf8.{encode}
-use Rattle.std.proofs.lemmas.Bool.{cases_lt, leb-false}
-use Rattle.std.proofs.lemmas.Option.{slice_get-get_or}
+use Rattle.std.proofs.lemmas.Bool.{cases_Bool, cases_lt, lt-ltb, lt-leb, leb-false, and_parts, true≢false}
+use Rattle.std.proofs.lemmas.Option.{none-some, slice_get-get_or, slice_get_past}
 use Rattle.std.proofs.lemmas.List.{get_or-drop}
 use Rattle.uni_text.specs.Characters.{char_at, first_char}
+use Rattle.uni_text.specs.Ascii.{ascii_fold}
 use Rattle.uni_text.specs.Folding.{fold}
 use Rattle.match_items.specs.Views.{fold_in}
 use Rattle.pat_tree.specs.declared.nodes.Item.{Item}
@@ -17,7 +19,11 @@ use Rattle.pat_tree.specs.declared.nodes.Item.TheVariants as item
 use Rattle.pat_tree.specs.Parts.{TreeParts}
 use Rattle.char_sets.specs.Sets.{class_has}
 use Rattle.match_items.specs.Subjects.{IsTextPlace}
-use Rattle.match_items.specs.Items.{is_end, takes, after_item}
+use Rattle.byte_lanes.specs.declared.line_end.EndKind.TheVariants as kinds
+use Rattle.byte_lanes.specs.Newlines.{newline_len}
+use Rattle.pat_tree.specs.declared.options.Newline.{Newline}
+use Rattle.pat_tree.specs.declared.options.Newline.TheVariants.{Cr, Lf, CrLf, AnyCrLf, Any, Nul}
+use Rattle.match_items.specs.Items.{is_end, takes, after_item, newline_at}
 use Rattle.match_items.proofs.TextGround.{next_place}
 use Rattle.ordered_search.specs.Setting.{Setting}
 use Rattle.std.specs.Prelude.{IfOk, Result, Ok, Err}
@@ -33,12 +39,26 @@ use Rattle.regex_hir.specs.Re.{Re, byte_in, char_in}
 use Rattle.regex_hir.specs.Matches.{Matches}
 use Rattle.regex_hir.proofs.TextLemmas.{char_at_from as kit_char_at}
 use Rattle.pat_shape.specs.Looks.{SeesLines}
-use Rattle.pat_shape.specs.IsShape.{may_take, IsSearchOf, HoldsBytes, HoldsPast, IsItemShape, IsAnyText, AreRounds}
+use Rattle.pat_shape.specs.Searches.{IsSearchOf}
+use Rattle.pat_shape.specs.Exact.{IsExactItem}
+use Rattle.pat_shape.specs.Plain.{is_plain_item}
+use Rattle.pat_shape.specs.IsShape.{may_take, is_lf, dots_of, HoldsBytes, HoldsOnly, HoldsPast, IsItemShape}
+use Rattle.pat_shape.specs.IsShape.{IsAnyText, AreRounds}
+use Rattle.pat_shape.proofs.Anchors.{lf_at, kind_is}
 use Rattle.pat_shape.proofs.Turns.{Turns, repeat_turns, repeat_sees}
 
 lf_bytes : encode_utf8 10 ≡ 10 ∷ []
 unfolding encode
 lf_bytes = refl
+
+some_same : (a b : ℕ) → Some a ≡ Some b → a ≡ b
+some_same a b e = cc
+
+stands_at : (hay : List ℕ) (p b : ℕ) → slice_get hay p ≡ Some b → (p < length hay) × (slice_index hay p ≡ b)
+stands_at hay p b e = elim (cases_lt p (length hay)) [
+  | inl inside ↦ (inside, some_same _ _ (sym (slice_get-get_or hay p 0 inside) ∙ e))
+  | inr past ↦ absurd (none-some b (sym (slice_get_past hay p past) ∙ e))
+]
 
 module _ (parts : TreeParts) (lined : Bool) where
   module _ (g : Setting) (h : IsSearchOf parts lined g) where
@@ -153,13 +173,95 @@ module _ (parts : TreeParts) (lined : Bool) where
             by_end false true same at e = by_takes (takes g.scene item p (C p)) (leb-false (length g.subject) p at)
                 refl e
 
-  pub byte_item : (item : Item) (rs : List (ℕ × ℕ)) → HoldsBytes parts lined item rs → parts.options.utf ≡ false
-      → IsItemShape parts lined item (byte_in rs)
-  byte_item item rs k off = (tt, λ g h p q here e. byte_shape g h item rs k off p q e)
+  -- What the kit takes the item takes.
+
+  is_by_lf : (n : Newline) → is_lf n ≡ true → n ≡ Lf
+  is_by_lf Lf e = refl
+  is_by_lf Cr e = absurd cc
+  is_by_lf CrLf e = absurd cc
+  is_by_lf AnyCrLf e = absurd cc
+  is_by_lf Any e = absurd cc
+  is_by_lf Nul e = absurd cc
+
+  module _ (g : Setting) (h : IsSearchOf parts lined g) where
+    -- no newline stands in a line that ends by LF
+    dots_take : dots_of parts lined ≡ true → (p : ℕ) → p < length g.subject → (newline_at g.scene p == 0) ≡ true
+    dots_take dots p inside =
+        let both = and_parts lined (is_lf parts.options.newline) dots in
+        let kind = kind_is parts lined (is_by_lf parts.options.newline both.1) g h in
+        subst (λ k. (newline_len k g.subject p == 0) ≡ true) (sym kind)
+        (by_some (cases_lt 0 (newline_len kinds.Lf g.subject p)) both.0)
+      where
+        by_some : ((0 < newline_len kinds.Lf g.subject p) ⊎ (newline_len kinds.Lf g.subject p ≤ 0)) → lined ≡ true
+            → (newline_len kinds.Lf g.subject p == 0) ≡ true
+        by_some (inl some) on = absurd (h.no_lf on p inside (lf_at g.subject p (lt-ltb 0 _ some)).1)
+        by_some (inr none) on = let zero_is : newline_len kinds.Lf g.subject p ≡ 0 = omega (arith, none) in
+            rw zero_is refl
+
+    may_takes : (item : Item) (p b : ℕ) → is_plain_item (dots_of parts lined) item ≡ true → parts.options.utf ≡ false
+        → p < length g.subject
+        → may_take parts.options.utf (class_has parts) item b ≡ true → takes g.scene item p b ≡ true
+    may_takes (Char c true) p b plain off inside e =
+        let u : g.options.utf ≡ false = ap (λ o. o.utf) h.options ∙ off in
+        let e' : (ascii_fold c == ascii_fold b) ≡ true =
+        subst (λ v. may_take v (class_has parts) (Char c true) b ≡ true) off e in
+        rw u e'
+    may_takes (Char c false) p b plain off inside e = e
+    may_takes AnyAll p b plain off inside e = refl
+    may_takes NotNewline p b plain off inside e = dots_take plain p inside
+    may_takes (item.Class n) p b plain off inside e = h.classes n b ∙ e
+
+  -- the place after the item, by whether the subject ends there
+  abbrev char_told : Setting → Item → ℕ → Bool → Bool → Option ℕ
+  char_told g item p done u =
+      elim (elim done as (λ _. Option (ℕ × ℕ)) [ true ↦ None | false ↦ Some (char_at u g.subject p) ])
+      as (λ _. Option ℕ) [
+        | None ↦ None
+        | Some c ↦ elim (takes g.scene item p c.0) [ true ↦ Some c.1 | false ↦ None ]
+      ]
+
+  byte_exact : (item : Item) (rs : List (ℕ × ℕ)) → HoldsOnly parts lined item rs → parts.options.utf ≡ false
+      → is_plain_item (dots_of parts lined) item ≡ true → IsExactItem parts lined item (byte_in rs)
+  byte_exact item rs only off plain g h p q here m =
+      let b = m.0 in
+      let at = stands_at g.subject p b m.1 in
+      let inside = at.0 in
+      let is = at.1 in
+      let low : b < 256 = subst (λ n. n < 256) is (h.small p inside) in
+      let utf : g.options.utf ≡ false = ap (λ o. o.utf) h.options ∙ off in
+      let taken : takes g.scene item p (slice_index g.subject p) ≡ true =
+      subst (λ n. takes g.scene item p n ≡ true) (sym is)
+      (may_takes g h item p b plain off inside (only b low m.2).0) in
+      ap (λ (d : Bool). char_told g item p d g.options.utf) (lt-leb (length g.subject) p inside)
+      ∙ ap (λ (u : Bool). char_told g item p false u) utf
+      ∙ ap (λ (b : Bool). elim b as (λ _. Option ℕ) [ true ↦ Some (p + 1) | false ↦ None ]) taken ∙ ap Some (sym m.3)
+
+  byte_no_lf : (item : Item) (rs : List (ℕ × ℕ)) → HoldsOnly parts lined item rs → IsTrue lined
+      → in_ranges rs 10 ≡ false
+  byte_no_lf item rs only on = elim (cases_Bool (in_ranges rs 10)) [
+    | inl has ↦ absurd ((only 10 (omega arith) has).1 on refl)
+    | inr none ↦ none
+  ]
+
+  pub byte_item : (item : Item) (rs : List (ℕ × ℕ)) → HoldsBytes parts lined item rs → HoldsOnly parts lined item rs
+      → parts.options.utf ≡ false → IsItemShape parts lined item (byte_in rs)
+  byte_item item rs k only off = record {
+    sees = tt;
+    wider = λ g h p q here e. byte_shape g h item rs k off p q e;
+    solid = λ hay i j m. let e = m.3 in omega (arith, e);
+    exact = λ off plain. byte_exact item rs only off plain;
+    no_lf = λ off on. byte_no_lf item rs only on;
+  }
 
   pub char_item : (item : Item) (rs : List (ℕ × ℕ)) → HoldsBytes parts lined item rs → HoldsPast parts lined item rs
       → parts.options.utf ≡ true → IsItemShape parts lined item (char_in rs)
-  char_item item rs k past on = (tt, λ g h p q here e. char_shape g h item rs k on past p q here e)
+  char_item item rs k past on = record {
+    sees = tt;
+    wider = λ g h p q here e. char_shape g h item rs k on past p q here e;
+    solid = λ hay i j m. let e = m.3 in let some = len_utf8_bounds m.0 in omega (arith, e, some.0);
+    exact = λ off plain. absurd (true≢false (sym on ∙ off));
+    no_lf = λ off in_line. absurd (true≢false (sym on ∙ off));
+  }
 
   -- Any text.
 
@@ -203,12 +305,13 @@ module _ (parts : TreeParts) (lined : Bool) where
   low_enough c scalar = grind (arith, nat_tests)
 
   pub bytes_told : (item : Item) (class : Class) (rs : List (ℕ × ℕ)) → HasExactly class.ranges.items (in_ranges rs)
-      → HoldsBytes parts lined item rs
+      → HoldsBytes parts lined item rs → HoldsOnly parts lined item rs
       → parts.options.utf ≡ false → IsItemShape parts lined item (meaning (Bytes class))
-  bytes_told item class rs same holds off =
+  bytes_told item class rs same holds only off =
       subst (IsItemShape parts lined item) (sym (meaning-Bytes class))
       (byte_item item class.ranges.items (λ b low lf may. exactly class rs same b (omega (arith, low))
-      (holds b low lf may)) off)
+      (holds b low lf may))
+      (λ b low in'. only b low (sym (same b (omega (arith, low))) ∙ in')) off)
 
   pub chars_told : (item : Item) (class : Class) (rs base : List (ℕ × ℕ)) (r : ℕ × ℕ)
       → HasExactly class.ranges.items (in_ranges rs) → rs ≡ base ++ r ∷ []

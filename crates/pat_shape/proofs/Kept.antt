@@ -1,9 +1,9 @@
 -- Shapes that are kept for the nodes of a tree.
-use Rattle.std.proofs.Common.{◌≡◌, ◌≢◌, ◌∙◌, ℕ, suc, ◌<◌, ◌≤◌, Bool, List, [], ◌∷◌, ◌++◌, length, map, take, drop}
-use Rattle.std.proofs.Common.{append-nil, set, get_or, Vec, Global, Option, Some, None, ◌⊎◌, inl, inr, refl, sym, ap}
-use Rattle.std.proofs.Common.{subst, arith}
-use Rattle.std.specs.Prelude.{All, IfOk, IfSome, Result, Ok, Err}
-use Rattle.std.proofs.lemmas.Bool.{cases_lt}
+use Rattle.std.proofs.Common.{◌≡◌, ◌≢◌, ◌∙◌, ℕ, suc, ◌<◌, ◌≤◌, Bool, true, false, List, [], ◌∷◌, ◌++◌, length, map}
+use Rattle.std.proofs.Common.{take, drop, append-nil, set, get_or, Vec, Global, Option, Some, None, ◌⊎◌, inl, inr}
+use Rattle.std.proofs.Common.{refl, sym, ap, subst, arith}
+use Rattle.std.specs.Prelude.{All, IfOk, IfSome, IsTrue, Result, Ok, Err, ◌&&◌, ◌||◌, nat_lt, nat_le}
+use Rattle.std.proofs.lemmas.Bool.{cases_Bool, cases_lt, ltb-true, leb-true, and_parts, true≢false}
 use Rattle.std.proofs.lemmas.List.{get_or-set_same, get_or-set_other, length-set, drop_all, take_all}
 use Rattle.std.proofs.Math.Seq.{take-suc}
 use Rattle.pat_tree.specs.declared.nodes.Item.{Item}
@@ -14,15 +14,21 @@ use Rattle.pat_tree.specs.Nested.{Nested, Test, Other, Callout, other_of, row, t
 use Rattle.pat_tree.specs.declared.nodes.Verb.{Verb}
 use Rattle.pat_tree.specs.declared.nodes.Verb.TheVariants.{Fail}
 use Rattle.regex_hir.specs.Re.{Re, empty, byte_in}
-use Rattle.regex_hir.specs.Meaning.{meaning, cat_all, alt_all}
+use Rattle.regex_class.specs.Ranges.{in_ranges}
+use Rattle.regex_hir.specs.Meaning.{meaning, cat_all, alt_all, repeat}
 use Rattle.regex_hir.specs.declared.hir.Hir.{Hir}
 use Rattle.regex_hir.specs.declared.hir.Hir.TheVariants.{Empty, Concat, Alternation}
+use Rattle.regex_hir.proofs.MatchesLemmas.{Matches-IsSpan}
 use Rattle.regex_hir.proofs.MeaningLemmas.{meaning-Empty, meaning-Concat, meaning-Alternation}
 use Rattle.pat_lengths.proofs.KeepLemmas.{keep_more}
-use Rattle.pat_shape.specs.Looks.{SeesLines}
-use Rattle.pat_shape.specs.IsShape.{GoesOn, IsPlainTest, IsShape, IsWider, IsOtherShape, AreShapes, IsItemShape}
-use Rattle.pat_shape.specs.IsShape.{IsAnchorShape, IsAnyText, IsUpTo, AreRounds, KeepShapes, shape_at}
-use Rattle.pat_shape.proofs.Turns.{repeat_sees}
+use Rattle.pat_shape.specs.Looks.{SeesLines, TakesNoLf}
+use Rattle.pat_shape.specs.Exact.{IsExact, AreExact, IsSolid}
+use Rattle.pat_shape.specs.Plain.{are_few, takes_some, one_takes, all_take, is_plain_item, is_plain, are_plain}
+use Rattle.pat_shape.specs.IsShape.{dots_of, IsKnown, GoesOn, IsPlainTest, IsShape, IsWider, IsOtherShape, AreShapes}
+use Rattle.pat_shape.specs.IsShape.{IsItemShape, IsAnchorShape, IsAnyText, IsUpTo, AreRounds, KeepShapes, shape_at}
+use Rattle.pat_shape.proofs.Turns.{repeat_sees, repeat_dry}
+use Rattle.pat_shape.proofs.Rounds.{repeat_solid}
+use Rattle.pat_shape.proofs.ExactComposed.{just_empty, just_one, just_many, just_seq, just_group, just_repeat}
 use Rattle.pat_shape.proofs.Composed.{shape_empty, shape_keep, shape_one, shape_many, shape_seq, shape_group}
 use Rattle.pat_shape.proofs.Composed.{shape_atomic, shape_repeat, shape_look, shape_anchor, shape_break, shape_ref}
 use Rattle.pat_shape.proofs.Composed.{shape_call, shape_condition, other_none, other_some, shape_fail, shape_verb}
@@ -31,6 +37,15 @@ use Rattle.pat_shape.proofs.Composed.{shape_callout}
 module _ (parts : TreeParts) (lined : Bool) where
   abbrev Is : ℕ → Option Hir → Type 0
   Is k o = IfSome o (λ hir. IsShape parts lined (tree_at (trees parts.nodes) k) (meaning hir))
+
+  abbrev Known : Nested → Re → Type 0
+  Known = IsKnown parts lined
+
+  abbrev Off : Type 0
+  Off = parts.options.utf ≡ false
+
+  abbrev dots : Bool
+  dots = dots_of parts lined
 
   pub keep_set : (shapes : List (Option Hir)) (k : ℕ) → k < length shapes → KeepShapes parts lined shapes
       → KeepShapes parts lined (set shapes k None)
@@ -90,68 +105,190 @@ module _ (parts : TreeParts) (lined : Bool) where
   alt_sees (t ∷ ts) [] h = absurd h
   alt_sees (t ∷ ts) (a ∷ res) h = (h.0.0, alt_sees ts res h.1)
 
+  -- Shapes that take something.
+
+  cat_solid : (ts : List Nested) (res : List Re) → AreShapes parts lined ts res → one_takes (row ts) ≡ true
+      → IsSolid (cat_all res)
+  cat_solid [] [] h e hay i j m = absurd (true≢false (sym e))
+  cat_solid [] (a ∷ res) h e hay i j m = absurd h
+  cat_solid (t ∷ ts) [] h e hay i j m = absurd h
+  cat_solid (t ∷ ts) (a ∷ res) h e hay i j m =
+      let first = Matches-IsSpan hay a i m.0 m.1 in
+      let rest = Matches-IsSpan hay (cat_all res) m.0 j m.2 in
+      by_first (cases_Bool (takes_some t)) first.0 rest.0 (λ later. cat_solid ts res h.1 later hay m.0 j m.2)
+    where
+      by_first : (takes_some t ≡ true) ⊎ (takes_some t ≡ false) → i ≤ m.0 → m.0 ≤ j
+          → (one_takes (row ts) ≡ true → m.0 < j) → i < j
+      by_first (inl some) le le' later = let on = h.0.2.solid some hay i m.0 m.1 in omega (arith, on, le')
+      by_first (inr none) le le' later = let on = later (ap (λ b. b || one_takes (row ts)) (sym none) ∙ e) in
+          omega (arith, on, le)
+
+  alt_solid : (ts : List Nested) (res : List Re) → AreShapes parts lined ts res → all_take (row ts) ≡ true
+      → IsSolid (alt_all res)
+  unfolding in_ranges
+  alt_solid [] [] h e hay i j m = let none = m.2 in absurd cc
+  alt_solid [] (a ∷ res) h e hay i j m = absurd h
+  alt_solid (t ∷ ts) [] h e hay i j m = absurd h
+  alt_solid (t ∷ ts) (a ∷ res) h e hay i j (inl m) = h.0.2.solid (and_parts (takes_some t) (all_take (row ts)) e).0
+      hay i j m
+  alt_solid (t ∷ ts) (a ∷ res) h e hay i j (inr m) = alt_solid ts res h.1
+      (and_parts (takes_some t) (all_take (row ts)) e).1 hay i j m
+
+  are_exact : (ts : List Nested) (res : List Re) → AreShapes parts lined ts res → Off → are_plain dots (row ts) ≡ true
+      → AreExact parts lined ts res
+  are_exact [] [] h off e = tt
+  are_exact [] (a ∷ res) h off e = absurd h
+  are_exact (t ∷ ts) [] h off e = absurd h
+  are_exact (t ∷ ts) (a ∷ res) h off e =
+      let both = and_parts (is_plain dots t) (are_plain dots (row ts)) e in
+      (h.0.2.exact off both.0, are_exact ts res h.1 off both.1)
+
+  cat_dry : (ts : List Nested) (res : List Re) → AreShapes parts lined ts res → Off → IsTrue lined
+      → are_plain dots (row ts) ≡ true → TakesNoLf (cat_all res)
+  cat_dry [] [] h off on e = tt
+  cat_dry [] (a ∷ res) h off on e = absurd h
+  cat_dry (t ∷ ts) [] h off on e = absurd h
+  cat_dry (t ∷ ts) (a ∷ res) h off on e =
+      let both = and_parts (is_plain dots t) (are_plain dots (row ts)) e in
+      (h.0.2.no_lf off on both.0, cat_dry ts res h.1 off on both.1)
+
+  alt_dry : (ts : List Nested) (res : List Re) → AreShapes parts lined ts res → Off → IsTrue lined
+      → are_plain dots (row ts) ≡ true → TakesNoLf (alt_all res)
+  unfolding in_ranges
+  alt_dry [] [] h off on e = refl
+  alt_dry [] (a ∷ res) h off on e = absurd h
+  alt_dry (t ∷ ts) [] h off on e = absurd h
+  alt_dry (t ∷ ts) (a ∷ res) h off on e =
+      let both = and_parts (is_plain dots t) (are_plain dots (row ts)) e in
+      (h.0.2.no_lf off on both.0, alt_dry ts res h.1 off on both.1)
+
+  in_order_of : (low : ℕ) (high : Option ℕ) → are_few low high ≡ true → IsUpTo high low
+  in_order_of low None e = tt
+  in_order_of low (Some high) e = leb-true low high (and_parts (nat_le low high) (nat_le high 200) e).0
+
+  just_rounds : (low : ℕ) (high : Option ℕ) (a re : Re) → AreRounds low high a re → are_few low high ≡ true
+      → re ≡ repeat low high true a
+  just_rounds low high a re r few =
+      let same = r.1.1.1.2 few in
+      r.1.1.0 ∙ ap (λ n. repeat n r.1.0 true a) same.0 ∙ ap (λ o. repeat low o true a) same.1
+
+  rounds_solid : (low : ℕ) (high : Option ℕ) (a re : Re) → AreRounds low high a re → 0 < low → IsSolid a → IsSolid re
+  rounds_solid low high a re r some solid = subst IsSolid (sym r.1.1.0)
+      (repeat_solid r.0 r.1.0 a (r.1.1.1.3 some) solid)
+
   rounds_see : (low : ℕ) (high : Option ℕ) (a re : Re) → AreRounds low high a re → SeesLines a → SeesLines re
   rounds_see low high a re r h = subst SeesLines (sym r.1.1.0) (repeat_sees r.0 r.1.0 a h)
 
-  as_empty : (t : Nested) → IsWider parts lined t empty → IsShape parts lined t (meaning Empty)
-  as_empty t h = subst (IsShape parts lined t) (sym meaning-Empty) (tt, h)
+  rounds_dry : (low : ℕ) (high : Option ℕ) (a re : Re) → AreRounds low high a re → TakesNoLf a → TakesNoLf re
+  rounds_dry low high a re r h = subst TakesNoLf (sym r.1.1.0) (repeat_dry r.0 r.1.0 a h)
+
+  -- of a tree that isn't plain nothing more is known
+  no_more : (t : Nested) (re : Re) → takes_some t ≡ false → is_plain dots t ≡ false → Known t re
+  no_more t re may_be other = record {
+    solid = λ e. absurd (true≢false (sym e ∙ may_be));
+    exact = λ off e. absurd (true≢false (sym e ∙ other));
+    no_lf = λ off on e. absurd (true≢false (sym e ∙ other));
+  }
+
+  as_empty : (t : Nested) → IsWider parts lined t empty → Known t empty → IsShape parts lined t (meaning Empty)
+  as_empty t h k = subst (IsShape parts lined t) (sym meaning-Empty) (tt, h, k)
 
   pub empty_is : IsShape parts lined tree.empty (meaning Empty)
-  empty_is = as_empty tree.empty (shape_empty parts lined)
+  empty_is = as_empty tree.empty (shape_empty parts lined) (record {
+    solid = λ e. absurd (true≢false (sym e));
+    exact = λ off e. just_empty parts lined;
+    no_lf = λ off on e. tt;
+  })
 
   pub keep_is : IsShape parts lined tree.keep_out (meaning Empty)
-  keep_is = as_empty tree.keep_out (shape_keep parts lined)
+  keep_is = as_empty tree.keep_out (shape_keep parts lined) (no_more tree.keep_out empty refl refl)
 
   pub look_is : (ahead positive once : Bool) (ts : List Nested)
       → IsShape parts lined (tree.look ahead positive once (row ts)) (meaning Empty)
   look_is ahead positive once ts = as_empty (tree.look ahead positive once (row ts))
       (shape_look parts lined ahead positive once (row ts))
+      (no_more (tree.look ahead positive once (row ts)) empty refl refl)
 
   pub callout_is : (c : Callout) → IsShape parts lined (tree.callout c) (meaning Empty)
-  callout_is c = as_empty (tree.callout c) (shape_callout parts lined c)
+  callout_is c = as_empty (tree.callout c) (shape_callout parts lined c) (no_more (tree.callout c) empty refl refl)
 
   pub verb_is : (v : Verb) → GoesOn v → IsShape parts lined (tree.verb v) (meaning Empty)
-  verb_is v k = as_empty (tree.verb v) (shape_verb parts lined v k)
+  verb_is v k = as_empty (tree.verb v) (shape_verb parts lined v k) (no_more (tree.verb v) empty refl refl)
 
   pub fail_is : (o : Option ℕ) (re : Re) → re ≡ byte_in [] → IsShape parts lined (tree.verb (Fail o)) re
-  fail_is o re e = subst (IsShape parts lined (tree.verb (Fail o))) (sym e) (tt, shape_fail parts lined o)
+  fail_is o re e = subst (IsShape parts lined (tree.verb (Fail o))) (sym e)
+      (tt, shape_fail parts lined o, no_more (tree.verb (Fail o)) (byte_in []) refl refl)
 
   pub anchor_is : (kind : AnchorKind) (re : Re) → IsAnchorShape parts lined kind re
       → IsShape parts lined (tree.anchor kind) re
-  anchor_is kind re h = (h.0, shape_anchor parts lined kind re h)
+  anchor_is kind re h = (h.0, shape_anchor parts lined kind re h, no_more (tree.anchor kind) re refl refl)
 
   pub break_is : (re : Re) → IsAnyText parts lined re → IsShape parts lined tree.line_break re
-  break_is re h = (h.0, shape_break parts lined re h)
+  break_is re h = (h.0, shape_break parts lined re h, no_more tree.line_break re refl refl)
 
   pub ref_is : (ns : List ℕ) (caseless : Bool) (re : Re) → IsAnyText parts lined re
       → IsShape parts lined (tree.ref ns caseless) re
-  ref_is ns caseless re h = (h.0, shape_ref parts lined ns caseless re h)
+  ref_is ns caseless re h = (h.0, shape_ref parts lined ns caseless re h, no_more (tree.ref ns caseless) re refl refl)
 
   pub call_is : (n : ℕ) (re : Re) → IsAnyText parts lined re → IsShape parts lined (tree.call n) re
-  call_is n re h = (h.0, shape_call parts lined n re h)
+  call_is n re h = (h.0, shape_call parts lined n re h, no_more (tree.call n) re refl refl)
 
   pub one_is : (item : Item) (re : Re) → IsItemShape parts lined item re → IsShape parts lined (tree.one item) re
-  one_is item re h = (h.0, shape_one parts lined item re h)
+  one_is item re h = (
+    h.sees,
+    shape_one parts lined item re h,
+    record {
+      solid = λ e. h.solid;
+      exact = λ off e. just_one parts lined item re (h.exact off e);
+      no_lf = λ off on e. h.no_lf off on;
+    },
+  )
 
   pub many_is : (item : Item) (a re : Re) (low : ℕ) (high : Option ℕ) (lazily : Bool) → IsItemShape parts lined item a
       → AreRounds low high a re → IsShape parts lined (tree.one_repeat item low high lazily) re
   many_is item a re low high lazily h r = (
-    rounds_see low high a re r h.0,
+    rounds_see low high a re r h.sees,
     shape_many parts lined item a re low high lazily h r,
+    record {
+      solid = λ e. rounds_solid low high a re r (ltb-true 0 low e) h.solid;
+      exact = λ off e.
+          let few = and_parts (are_few low high) (is_plain_item dots item) e in
+          subst (IsExact parts lined (tree.one_repeat item low high lazily)) (sym (just_rounds low high a re r few.0))
+          (just_many parts lined item a low high lazily (in_order_of low high few.0) (h.exact off few.1));
+      no_lf = λ off on e. rounds_dry low high a re r (h.no_lf off on);
+    },
   )
 
   pub repeat_is : (body : Nested) (a re : Re) (low : ℕ) (high : Option ℕ) (lazily : Bool) → IsUpTo high low
       → IsShape parts lined body a → AreRounds low high a re
       → IsShape parts lined (tree.repeat body low high lazily) re
-  repeat_is body a re low high lazily le h r =
-      (rounds_see low high a re r h.0, shape_repeat parts lined body a re low high lazily le h.1 r)
+  repeat_is body a re low high lazily le h r = (
+    rounds_see low high a re r h.0,
+    shape_repeat parts lined body a re low high lazily le h.1 r,
+    record {
+      solid = λ e. let some = and_parts (nat_lt 0 low) (takes_some body) e in
+          rounds_solid low high a re r (ltb-true 0 low some.0) (h.2.solid some.1);
+      exact = λ off e.
+          let few = and_parts (are_few low high) (takes_some body && is_plain dots body) e in
+          let body_is = and_parts (takes_some body) (is_plain dots body) few.1 in
+          subst (IsExact parts lined (tree.repeat body low high lazily)) (sym (just_rounds low high a re r few.0))
+          (just_repeat parts lined body a low high lazily le h.1 (h.2.exact off body_is.1) (h.2.solid body_is.0));
+      no_lf = λ off on e.
+          let few = and_parts (are_few low high) (takes_some body && is_plain dots body) e in
+          let body_is = and_parts (takes_some body) (is_plain dots body) few.1 in
+          rounds_dry low high a re r (h.2.no_lf off on body_is.1);
+    },
+  )
 
   pub condition_is : (test : Test) (first : Nested) (second : Other) (a b re : Re) → IsPlainTest test
       → IsShape parts lined first a → IsOtherShape parts lined second b
       → re ≡ alt_all (a ∷ b ∷ []) → IsShape parts lined (tree.condition test first second) re
   condition_is test first second a b re plain h k e =
-      subst (IsShape parts lined (tree.condition test first second)) (sym e)
-      ((h.0, (k.0, tt)), shape_condition parts lined test first second a b plain h.1 k)
+      subst (IsShape parts lined (tree.condition test first second)) (sym e) (
+        (h.0, (k.0, tt)),
+        shape_condition parts lined test first second a b plain h.1 k,
+        no_more (tree.condition test first second) (alt_all (a ∷ b ∷ [])) refl refl,
+      )
 
   pub no_other_is : IsOtherShape parts lined tree.no_other (meaning Empty)
   no_other_is = subst (IsOtherShape parts lined tree.no_other) (sym meaning-Empty) (tt, other_none parts lined)
@@ -177,8 +314,16 @@ module _ (parts : TreeParts) (lined : Bool) where
 
   pub seq_is : (ts : List Nested) (subs : Vec Hir Global) → AreShapes parts lined ts (map meaning subs.items)
       → IsShape parts lined (tree.seq (row ts)) (meaning (Concat subs))
-  seq_is ts subs h = subst (IsShape parts lined (tree.seq (row ts))) (sym (meaning-Concat subs))
-      (cat_sees ts (map meaning subs.items) h, shape_seq parts lined ts (map meaning subs.items) h)
+  seq_is ts subs h = subst (IsShape parts lined (tree.seq (row ts))) (sym (meaning-Concat subs)) (
+    cat_sees ts (map meaning subs.items) h,
+    shape_seq parts lined ts (map meaning subs.items) h,
+    record {
+      solid = cat_solid ts (map meaning subs.items) h;
+      exact = λ off e. just_seq parts lined ts (map meaning subs.items) h
+          (are_exact ts (map meaning subs.items) h off e);
+      no_lf = λ off on e. cat_dry ts (map meaning subs.items) h off on e;
+    },
+  )
 
   pub group_is : (number : Option ℕ) (ts : List Nested) (subs : Vec Hir Global)
       → AreShapes parts lined ts (map meaning subs.items)
@@ -187,12 +332,21 @@ module _ (parts : TreeParts) (lined : Bool) where
       (sym (meaning-Alternation subs)) (
         alt_sees ts (map meaning subs.items) h,
         shape_group parts lined number ts (map meaning subs.items) h,
+        record {
+          solid = alt_solid ts (map meaning subs.items) h;
+          exact = λ off e. just_group parts lined number ts (map meaning subs.items)
+              (are_exact ts (map meaning subs.items) h off e);
+          no_lf = λ off on e. alt_dry ts (map meaning subs.items) h off on e;
+        },
       )
 
   pub atomic_is : (ts : List Nested) (subs : Vec Hir Global) → AreShapes parts lined ts (map meaning subs.items)
       → IsShape parts lined (tree.atomic (row ts)) (meaning (Alternation subs))
-  atomic_is ts subs h = subst (IsShape parts lined (tree.atomic (row ts))) (sym (meaning-Alternation subs))
-      (alt_sees ts (map meaning subs.items) h, shape_atomic parts lined ts (map meaning subs.items) h)
+  atomic_is ts subs h = subst (IsShape parts lined (tree.atomic (row ts))) (sym (meaning-Alternation subs)) (
+    alt_sees ts (map meaning subs.items) h,
+    shape_atomic parts lined ts (map meaning subs.items) h,
+    no_more (tree.atomic (row ts)) (alt_all (map meaning subs.items)) refl refl,
+  )
 
   -- the shapes of the parts of a node, where they were told of the same parts
   pub told_are : (ks ks' : List ℕ) (o : Option (Vec Hir Global)) (subs : Vec Hir Global) → ks ≡ ks' → o ≡ Some subs

@@ -1,7 +1,11 @@
 pub mod Turns
 pub mod OnlyStreams
 pub mod WideSearch
+pub mod FullStreams
+pub mod ExactSearch
+pub mod Rounds
 pub mod Composed
+pub mod ExactComposed
 pub mod Items
 pub mod Anchors
 pub mod Looks
@@ -9,4 +13,7 @@ pub mod Slices
 pub mod NoMatch
 pub mod Ranges
 pub mod Kept
+pub mod FoundExact
+pub mod Inside
+pub mod PlainNodes
 pub mod LineShapes

@@ -97,3 +97,11 @@ module _ (before line after : List ℕ) (at : IsLine before line after) where
   look_there WordAsciiNegate k i le h = not_word_is text _ ∙ ap not (sym (words_same i le)) ∙ sym (not_word_is line i)
       ∙ h
   look_there _ k i le h = absurd k
+
+  pub look_back : (l : Look) → IsLineLook l → (i : ℕ) → i ≤ length line → holds l text (length before + i) ≡ true
+      → holds l line i ≡ true
+  look_back StartLf k i le h = start_is line i ∙ front_same beside refl i le ∙ sym (start_is text _) ∙ h
+  look_back EndLf k i le h = end_is line i ∙ back_same beside refl i le ∙ sym (end_is text _) ∙ h
+  look_back WordAscii k i le h = word_is line i ∙ words_same i le ∙ sym (word_is text _) ∙ h
+  look_back WordAsciiNegate k i le h = not_word_is line i ∙ ap not (words_same i le) ∙ sym (not_word_is text _) ∙ h
+  look_back _ k i le h = absurd k

@@ -1,8 +1,8 @@
 -- Ranges of characters.
-use Rattle.std.proofs.Common.{◌≡◌, ℕ, ◌+◌, ◌<◌, ◌≤◌, Bool, true, false, List, [], ◌∷◌, ◌++◌, ◌||◌, inl, inr, refl}
-use Rattle.std.proofs.Common.{sym, subst, arith}
+use Rattle.std.proofs.Common.{◌≡◌, ℕ, ◌+◌, ◌<◌, ◌≤◌, Bool, true, false, List, [], ◌∷◌, ◌++◌, ◌||◌, ◌⊎◌, inl, inr}
+use Rattle.std.proofs.Common.{refl, sym, subst, arith}
 use Rattle.std.specs.Prelude.{◌==◌}
-use Rattle.std.proofs.lemmas.Bool.{cases_lt, le-leb, eqb-true, or_right}
+use Rattle.std.proofs.lemmas.Bool.{cases_lt, le-leb, leb-true, eqb-true, and_parts, or_right, true≢false}
 use Rattle.std.proofs.lemmas.Bool.Decides.{nat_tests}
 use Rattle.std.specs.Char.{IsScalar}
 use Rattle.uni_text.specs.Folding.{fold}
@@ -44,6 +44,38 @@ holds_passed P rs b unwanted h k low w = elim (cases_lt k b) [
   | inl less ↦ h k less w
   | inr more ↦ let same : b ≡ k = omega (arith, low, more) in absurd (unwanted (subst P (sym same) w))
 ]
+
+or_cases : (x y : Bool) → (x || y) ≡ true → (x ≡ true) ⊎ (y ≡ true)
+or_cases true y e = inl refl
+or_cases false y e = inr e
+
+-- the ranges hold none that isn't of Q
+abbrev pub Only : (ℕ → Type 0) → List (ℕ × ℕ) → Type 0
+Only Q rs = (k : ℕ) → in_ranges rs k ≡ true → Q k
+
+one_in : (b k : ℕ) → in_range (b, b) k ≡ true → b ≡ k
+unfolding in_range
+one_in b k e = let both = and_parts _ _ e in let low = leb-true b k both.0 in let high = leb-true k b both.1 in
+    omega (arith, low, high)
+
+pub only_pushed : (Q : ℕ → Type 0) (rs : List (ℕ × ℕ)) (b : ℕ) → Only Q rs → Q b → Only Q (rs ++ (b, b) ∷ [])
+unfolding in_ranges
+only_pushed Q [] b h q k e = by_one (or_cases (in_range (b, b) k) false e)
+  where
+    by_one : (in_range (b, b) k ≡ true) ⊎ (false ≡ true) → Q k
+    by_one (inl here) = subst Q (one_in b k here) q
+    by_one (inr e) = absurd (true≢false (sym e))
+only_pushed Q (r ∷ rs) b h q k e = by_first (or_cases (in_range r k) (in_ranges (rs ++ (b, b) ∷ []) k) e)
+    (only_pushed Q rs b (λ n e. h n (or_right (in_range r n) _ e)) q k)
+  where
+    by_first : (in_range r k ≡ true) ⊎ (in_ranges (rs ++ (b, b) ∷ []) k ≡ true)
+        → (in_ranges (rs ++ (b, b) ∷ []) k ≡ true → Q k) → Q k
+    by_first (inl here) on = h k (rw here refl)
+    by_first (inr later) on = on later
+
+pub only_none : (Q : ℕ → Type 0) → Only Q []
+unfolding in_ranges
+only_none Q k e = absurd cc
 
 pub holds_none : (P : ℕ → Type 0) → Holds P [] 0
 holds_none P k low w = absurd (omega (arith, low))

@@ -5,7 +5,7 @@ use Rattle.std.specs.Prelude.{List}
 use Rattle.regex_hir.specs.Re.{Re, plus}
 use Rattle.regex_hir.specs.Matches.{Matches, Rounds, one_round, next_round}
 use Rattle.regex_hir.specs.Meaning.{copies, up_to, at_least, repeat}
-use Rattle.pat_shape.specs.Looks.{SeesLines}
+use Rattle.pat_shape.specs.Looks.{SeesLines, TakesNoLf}
 use Rattle.pat_shape.specs.IsShape.{IsUpTo}
 
 -- n rounds of R lead from i to j
@@ -79,3 +79,22 @@ pub repeat_sees : (low : ℕ) (high : Option ℕ) (a : Re) → SeesLines a → S
 unfolding repeat
 repeat_sees low None a h = at_least_see low a h
 repeat_sees low (Some most) a h = copies_see low a (up_to true (most - low) a) h (up_to_see (most - low) a h)
+
+-- Rounds take no LF where one takes none.
+
+copies_dry : (low : ℕ) (a b : Re) → TakesNoLf a → TakesNoLf b → TakesNoLf (copies low a b)
+copies_dry zero a b h k = k
+copies_dry (suc low) a b h k = (h, copies_dry low a b h k)
+
+up_to_dry : (most : ℕ) (a : Re) → TakesNoLf a → TakesNoLf (up_to true most a)
+up_to_dry zero a h = tt
+up_to_dry (suc most) a h = ((h, up_to_dry most a h), tt)
+
+at_least_dry : (low : ℕ) (a : Re) → TakesNoLf a → TakesNoLf (at_least true low a)
+at_least_dry zero a h = (h, tt)
+at_least_dry (suc low) a h = copies_dry low a (plus true a) h h
+
+pub repeat_dry : (low : ℕ) (high : Option ℕ) (a : Re) → TakesNoLf a → TakesNoLf (repeat low high true a)
+unfolding repeat
+repeat_dry low None a h = at_least_dry low a h
+repeat_dry low (Some most) a h = copies_dry low a (up_to true (most - low) a) h (up_to_dry (most - low) a h)

@@ -1,10 +1,12 @@
 -- What a shape of a tree is.
-use Rattle.std.specs.Prelude.{◌≡◌, ◌≢◌, ℕ, ◌<◌, ◌≤◌, ◌==◌, Bool, true, false, if◌then◌else◌, IsTrue, List, [], ◌∷◌}
-use Rattle.std.specs.Prelude.{length, Option, Some, None, IfSome, slice_index, slice_index_or}
+use Rattle.std.specs.Prelude.{◌≡◌, ◌≢◌, ℕ, ◌<◌, ◌≤◌, ◌==◌, ◌&&◌, Bool, true, false, if◌then◌else◌, IsTrue, List, []}
+use Rattle.std.specs.Prelude.{◌∷◌, length, Option, Some, None, IfSome, slice_index_or}
 use Rattle.pat_tree.specs.declared.nodes.Item.{Item}
 use Rattle.std.specs.Char.{IsScalar}
 use Rattle.pat_tree.specs.declared.nodes.Item.TheVariants.{Char, AnyAll, NotNewline, Class}
 use Rattle.pat_tree.specs.declared.nodes.AnchorKind.{AnchorKind}
+use Rattle.pat_tree.specs.declared.options.Newline.{Newline}
+use Rattle.pat_tree.specs.declared.options.Newline.TheVariants.{Lf}
 use Rattle.pat_tree.specs.Parts.{TreeParts}
 use Rattle.pat_tree.specs.Nested.{Nested, Other, Test, assert, called, tree_at, trees}
 use Rattle.pat_tree.specs.declared.nodes.Verb.{Verb}
@@ -12,9 +14,8 @@ use Rattle.pat_tree.specs.declared.nodes.Verb.TheVariants.{Accept, Fail}
 use Rattle.uni_text.specs.Ascii.{ascii_fold}
 use Rattle.uni_text.specs.Folding.{fold}
 use Rattle.char_sets.specs.Sets.{class_has}
-use Rattle.match_items.specs.Subjects.{IsText, IsTextPlace}
+use Rattle.match_items.specs.Subjects.{IsTextPlace}
 use Rattle.match_items.specs.Items.{after_item, holds}
-use Rattle.match_items.specs.Views.{fold_in}
 use Rattle.ordered_search.specs.Stream.{State}
 use Rattle.ordered_search.specs.Setting.{Setting}
 use Rattle.ordered_search.specs.Run.{level_other, run}
@@ -24,7 +25,10 @@ use Rattle.regex_hir.specs.Re.{Re}
 use Rattle.regex_hir.specs.Matches.{Matches}
 use Rattle.regex_hir.specs.Meaning.{meaning, repeat}
 use Rattle.regex_hir.specs.declared.hir.Hir.{Hir}
-use Rattle.pat_shape.specs.Looks.{SeesLines}
+use Rattle.pat_shape.specs.Searches.{IsSearchOf}
+use Rattle.pat_shape.specs.Exact.{IsExact, IsExactItem, IsSolid}
+use Rattle.pat_shape.specs.Plain.{are_few, is_plain, is_plain_item, takes_some}
+use Rattle.pat_shape.specs.Looks.{SeesLines, TakesNoLf}
 use Rattle.pat_shape.specs.Wide.{Only}
 
 -- the item may take the character, in UTF or not, by what the classes hold of
@@ -35,14 +39,13 @@ may_take utf has AnyAll b = true
 may_take utf has NotNewline b = true
 may_take utf has (Class n) b = has n b
 
--- a search with the options and the classes of the tree; in a line there is no LF
-pub record IsSearchOf (tree : TreeParts) (lined : Bool) (g : Setting) : Type 0 where
-  pub options : g.options ≡ tree.options
-  pub text : IsText g.options g.subject
-  pub small : (k : ℕ) → k < length g.subject → slice_index g.subject k < 256
-  pub no_lf : IsTrue lined → (k : ℕ) → k < length g.subject → slice_index g.subject k ≢ 10
-  pub classes : (n c : ℕ) → g.class_has n c ≡ class_has tree n c
-  pub folds : g.fold ≡ fold_in g.options.utf
+-- in a line that ends by LF alone `.` takes any character
+abbrev pub is_lf : Newline → Bool
+is_lf Lf = true
+is_lf _ = false
+
+abbrev pub dots_of : TreeParts → Bool → Bool
+dots_of tree lined = lined && is_lf tree.options.newline
 
 abbrev pub shape_at : List (Option Hir) → ℕ → Option Hir
 shape_at shapes k = slice_index_or shapes k None
@@ -54,9 +57,16 @@ module _ (tree : TreeParts) (lined : Bool) where
       (g : Setting) → IsSearchOf tree lined g → (d : ℕ) (s : State) → IsOnWay g None s
       → Only (Matches g.subject re s.place) (run g d t s)
 
+  -- what more is known of the shapes of some trees: none of its matches is empty, and outside UTF a search gets
+  -- wherever it matches, and in a line it takes no LF
+  pub record IsKnown (t : Nested) (re : Re) : Type 0 where
+    pub solid : takes_some t ≡ true → IsSolid re
+    pub exact : tree.options.utf ≡ false → is_plain (dots_of tree lined) t ≡ true → IsExact tree lined t re
+    pub no_lf : tree.options.utf ≡ false → IsTrue lined → is_plain (dots_of tree lined) t ≡ true → TakesNoLf re
+
   -- and in a text that holds the subject as a line it matches there too
   abbrev pub IsShape : Nested → Re → Type 0
-  IsShape t re = SeesLines re × IsWider t re
+  IsShape t re = SeesLines re × IsWider t re × IsKnown t re
 
   -- the same of a condition's second branch
   abbrev pub IsOtherShape : Other → Re → Type 0
@@ -80,10 +90,24 @@ module _ (tree : TreeParts) (lined : Bool) where
   HoldsPast item ranges = (c : ℕ) → 256 ≤ c → IsScalar c
       → may_take true (class_has tree) item c ≡ true → in_ranges ranges c ≡ true
 
+  -- and those among the bytes hold no others, and in a line no LF
+  abbrev pub HoldsOnly : Item → List (ℕ × ℕ) → Type 0
+  HoldsOnly item ranges = (b : ℕ) → b < 256
+      → in_ranges ranges b ≡ true
+      → (may_take tree.options.utf (class_has tree) item b ≡ true) × (IsTrue lined → b ≢ 10)
+
   -- the same of one item, and of a simple assertion
-  abbrev pub IsItemShape : Item → Re → Type 0
-  IsItemShape item re = SeesLines re × ((g : Setting) → IsSearchOf tree lined g → (p q : ℕ)
-      → IsTextPlace g.options g.subject p → after_item g.scene item p ≡ Some q → Matches g.subject re p q)
+  abbrev pub IsWiderItem : Item → Re → Type 0
+  IsWiderItem item re = (g : Setting) → IsSearchOf tree lined g → (p q : ℕ)
+      → IsTextPlace g.options g.subject p → after_item g.scene item p ≡ Some q → Matches g.subject re p q
+
+  pub record IsItemShape (item : Item) (re : Re) : Type 0 where
+    pub sees : SeesLines re
+    pub wider : IsWiderItem item re
+    pub solid : IsSolid re
+    pub exact : tree.options.utf ≡ false → is_plain_item (dots_of tree lined) item ≡ true
+        → IsExactItem tree lined item re
+    pub no_lf : tree.options.utf ≡ false → IsTrue lined → TakesNoLf re
 
   abbrev pub IsAnchorShape : AnchorKind → Re → Type 0
   IsAnchorShape kind re = SeesLines re × ((g : Setting) → IsSearchOf tree lined g → (p : ℕ)
@@ -108,7 +132,8 @@ IsUpTo high n = IfSome high (λ most. n ≤ most)
 abbrev pub AreRounds : ℕ → Option ℕ → Re → Re → Type 0
 AreRounds low high one re =
     (least : ℕ) × ((most : Option ℕ) × ((re ≡ repeat least most true one)
-    × ((least ≤ low) × ((n : ℕ) → IsUpTo high n → IsUpTo most n))))
+    × ((least ≤ low) × ((n : ℕ) → IsUpTo high n → IsUpTo most n)
+    × (are_few low high ≡ true → (least ≡ low) × (most ≡ high)) × (0 < low → 0 < least))))
 
 -- a test of a condition that isn't a lookaround
 abbrev pub IsPlainTest : Test → Type 0

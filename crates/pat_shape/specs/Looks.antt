@@ -1,5 +1,6 @@
 -- Expressions that match in a text whatever they match in a line of it.
-use Rattle.std.specs.Prelude.{◌≡◌, ◌≤◌, ℕ, ◌+◌, ◌⊎◌, ⊤, List, ◌++◌, length, Some, None, slice_get}
+use Rattle.std.specs.Prelude.{◌≡◌, ◌≤◌, ℕ, ◌+◌, ◌⊎◌, ⊤, false, List, ◌++◌, length, Some, None, slice_get}
+use Rattle.regex_class.specs.Ranges.{in_ranges}
 use Rattle.regex_hir.specs.Text.{byte_before}
 use Rattle.regex_hir.specs.declared.look.Look.{Look}
 use Rattle.regex_hir.specs.declared.look.Look.TheVariants.{StartLf, EndLf, WordAscii, WordAsciiNegate}
@@ -39,3 +40,22 @@ SliceLaw =
     (re : Re) → SeesLines re → (before line after : List ℕ) → IsLine before line after
     → (i j : ℕ) → i ≤ length line → Matches line re i j
     → Matches (before ++ (line ++ after)) re (length before + i) (length before + j)
+
+-- it takes no LF, and its assertions are such
+abbrev pub TakesNoLf : Re → Type 0
+TakesNoLf empty = Unit {0}
+TakesNoLf (literal bs) = ⊥
+TakesNoLf (byte_in rs) = in_ranges rs 10 ≡ false
+TakesNoLf (char_in rs) = ⊥
+TakesNoLf (look l) = IsLineLook l
+TakesNoLf (cat a b) = TakesNoLf a × TakesNoLf b
+TakesNoLf (alt a b) = TakesNoLf a × TakesNoLf b
+TakesNoLf (group n a) = TakesNoLf a
+TakesNoLf (plus greedy a) = TakesNoLf a
+
+-- what of it matches from a place of a line on in a text that holds the line, matches in the line
+abbrev pub InsideLaw : Type 0
+InsideLaw =
+    (re : Re) → TakesNoLf re → (before line after : List ℕ) → IsLine before line after
+    → (i j : ℕ) → i ≤ length line → Matches (before ++ (line ++ after)) re (length before + i) j
+    → (k : ℕ) × Matches line re i k

@@ -4,10 +4,12 @@
 mod laws;
 mod lines;
 mod pieces;
+mod plain;
 mod shape;
 
 pub use laws::{
-    no_match_before_shape, no_match_in_lines_before, no_match_without_shape, place_without_shape,
+    match_where_shape_matches, matches_stay_in_lines, no_match_before_shape,
+    no_match_in_lines_before, no_match_without_shape, place_without_shape,
 };
-pub use lines::line_shape;
+pub use lines::{LineShape, line_shape};
 pub use shape::shape_of;

@@ -1,5 +1,6 @@
 //! Shapes of patterns whose searches of a line pass no limit.
-ghost use Rattle.std.specs.Prelude.{◌≡◌, ◌+◌, ◌<◌, ◌≤◌, IfOk, IfSome, true};
+ghost use Rattle.std.specs.Prelude.{◌≡◌, ◌+◌, ◌<◌, ◌≤◌, ◌||◌, IfOk, IfSome, false, true};
+ghost use Rattle.pat_tree.specs.declared.options.Newline.TheVariants.{Lf};
 ghost use Rattle.pat_tree.specs.declared.options.PartialMode.TheVariants.{Off};
 ghost use Rattle.pat_tree.specs.Parts.{tree_of};
 ghost use Rattle.char_sets.specs.Sets.{class_has};
@@ -9,36 +10,101 @@ ghost use Rattle.pat_bounds.specs.Bounds.{at};
 ghost use Rattle.pat_bounds.specs.BoundTables.{Refines};
 ghost use Rattle.ordered_search.specs.Setting.{lower_of};
 ghost use Rattle.regex_hir.specs.Meaning.{meaning};
-ghost use Rattle.pat_shape.specs.Lines.{IsLineShape};
+ghost use Rattle.pat_shape.specs.IsShape.{IsShape};
+ghost use Rattle.pat_shape.specs.Lines.{IsLineShape, IsExactLineShape, IsPlainUnder};
 
+use crate::plain::is_plain;
 use crate::shape::shape_of;
 use char_sets::ClassTable;
 use pat_bounds::{Bound, bounds_of};
-use pat_tree::{MatchOptions, Memory, Options, Tree};
+use pat_tree::{MatchOptions, Memory, Newline, Options, Tree};
 use regex_hir::Hir;
 use std::alloc::Global;
 
+/// An expression of the kit's for a pattern's searches of lines.
+#[derive(Drop)]
+pub struct LineShape {
+    pub hir: Hir,
+    /// Whether a line in which it is found has a match.
+    pub is_exact: bool,
+}
+
 /// The shape of a pattern, for subjects of at most `most` bytes without LF: one in which it isn't found has no match,
-/// and a search of it passes no limit of `matching`. None where the pattern has no shape, or where such a search could
-/// pass a limit.
+/// and a search of it passes no limit of `matching`. An exact one is found nowhere else. None where the pattern has no
+/// shape, or where such a search could pass a limit.
 pub fn line_shape(
     alloc: Global,
     tree: &Tree,
     classes: &ClassTable,
     most: u32,
     matching: &MatchOptions,
-) -> Result<Option<Hir>, Memory>
+) -> Result<Option<LineShape>, Memory>
     requires table { IsTableOf tree.now classes.now }
     requires whole { matching.now.«partial» ≡ Off }
-    ensures { IfOk result (λ o. IfSome o (λ hir.
-        IsLineShape tree.now matching.now most (meaning hir))) }
+    ensures shape { IfOk result (λ o. IfSome o (λ shape.
+        IsLineShape tree.now matching.now most (meaning shape.hir))) }
+    ensures exact { IfOk result (λ o. IfSome o (λ shape. shape.is_exact ≡ true
+        → IsExactLineShape tree.now matching.now most (meaning shape.hir))) }
 {
     match whole_bound(alloc, tree, classes)? {
         Some(bound) if is_within(&bound, most, tree.options(), matching) => {
-            shape_of(alloc, tree, classes, true)
+            shape_under(alloc, tree, classes, matching)
         }
         _ => Ok(None),
     }
+}
+
+/// The shape, and whether it is exact under these options.
+fn shape_under(
+    alloc: Global,
+    tree: &Tree,
+    classes: &ClassTable,
+    matching: &MatchOptions,
+) -> Result<Option<LineShape>, Memory>
+    requires { IsTableOf tree.now classes.now }
+    ensures shape { IfOk result (λ o. IfSome o (λ shape.
+        IsShape tree.now true (tree_of tree.now) (meaning shape.hir))) }
+    ensures exact { IfOk result (λ o. IfSome o (λ shape. shape.is_exact ≡ true
+        → IsPlainUnder tree.now matching.now)) }
+{
+    let Some(hir) = shape_of(alloc, tree, classes, true)? else {
+        return Ok(None);
+    };
+    let is_exact = is_plain_under(alloc, tree, matching)?;
+    Ok(Some(LineShape { hir, is_exact }))
+}
+
+/// Whether the shape is exact under these options.
+fn is_plain_under(alloc: Global, tree: &Tree, matching: &MatchOptions) -> Result<bool, Memory>
+    ensures { IfOk result (λ is. is ≡ true → IsPlainUnder tree.now matching.now) }
+{
+    if is_free(tree.options(), matching) {
+        is_plain(alloc, tree)
+    } else {
+        Ok(false)
+    }
+}
+
+/// Whether any match counts and any place is tried, outside UTF, in lines that end by LF alone.
+fn is_free(options: &Options, matching: &MatchOptions) -> bool
+    ensures bytes { result ≡ true → options.now.utf ≡ false }
+    ensures by_lf { result ≡ true → options.now.newline ≡ Lf }
+    ensures starts { result ≡ true → (options.now.anchored || matching.now.anchored) ≡ false }
+    ensures ends { result ≡ true
+        → (options.now.endanchored || matching.now.endanchored) ≡ false }
+    ensures further { result ≡ true → options.now.firstline ≡ false }
+    ensures some { result ≡ true → (options.now.notempty || matching.now.notempty) ≡ false }
+    ensures there { result ≡ true
+        → (options.now.notempty_atstart || matching.now.notempty_atstart) ≡ false }
+{
+    if options.utf || options.newline != Newline::Lf || options.firstline {
+        return false;
+    }
+    if options.anchored || matching.anchored || options.endanchored || matching.endanchored {
+        return false;
+    }
+    let some = options.notempty || matching.notempty;
+    !some && !options.notempty_atstart && !matching.notempty_atstart
 }
 
 /// How much a search for the pattern takes at most, where it is known.

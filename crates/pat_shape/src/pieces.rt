@@ -1,5 +1,6 @@
 //! Shapes of what has no children: characters, simple assertions, any text; and rounds of one.
-ghost use Rattle.std.specs.Prelude.{◌≡◌, ◌≢◌, ◌<◌, ◌≤◌, ℕ, Bool, All, IfOk, IsTrue, Some, if◌then◌else◌, length, true};
+ghost use Rattle.std.specs.Prelude.{◌≡◌, ◌≢◌, ◌<◌, ◌≤◌, ℕ, Bool, All, IfOk, IfSome, IsTrue, Some, if◌then◌else◌};
+ghost use Rattle.std.specs.Prelude.{length, true};
 ghost use Rattle.std.specs.Char.{IsScalar};
 ghost use Rattle.pat_tree.specs.declared.nodes.Item.TheVariants.{Char};
 ghost use Rattle.pat_tree.specs.Parts.{TreeParts};
@@ -11,8 +12,8 @@ ghost use Rattle.regex_hir.specs.Re as re;
 ghost use Rattle.regex_hir.specs.Re.{empty};
 ghost use Rattle.regex_hir.specs.Meaning.{meaning};
 ghost use Rattle.pat_tree.specs.declared.options.Newline.TheVariants.{Lf};
-ghost use Rattle.pat_shape.specs.IsShape.{AreRounds, HoldsBytes, IsAnchorShape, IsAnyText, IsItemShape, IsUpTo};
-ghost use Rattle.pat_shape.specs.IsShape.{may_take};
+ghost use Rattle.pat_shape.specs.IsShape.{AreRounds, HoldsBytes, HoldsOnly, IsAnchorShape, IsAnyText, IsItemShape};
+ghost use Rattle.pat_shape.specs.IsShape.{IsUpTo, may_take};
 
 use char_sets::{ClassTable, both_cases};
 use pat_tree::{AnchorKind, Item, Memory, Newline, Tree};
@@ -22,7 +23,7 @@ use std::alloc::Global;
 use uni_text::fold;
 
 /// A repeat of more rounds is taken for one without a maximum, or with this minimum.
-const MOST_ROUNDS: u16 = 200;
+pub const MOST_ROUNDS: u16 = 200;
 
 /// Whether the item may take the character of number `b`.
 fn takes(classes: &ClassTable, utf: bool, item: &Item, b: u8) -> bool
@@ -42,7 +43,10 @@ fn takes(classes: &ClassTable, utf: bool, item: &Item, b: u8) -> bool
 /// The same, without LF in a line.
 fn is_wanted(classes: &ClassTable, utf: bool, lined: bool, item: &Item, b: u8) -> bool
     requires { All (λ n. n < length classes.now) (class_in item.now) }
-    ensures { (tree : TreeParts) → IsTableOf tree classes.now → (IsTrue lined → b ≢ 10)
+    ensures only { (tree : TreeParts) → IsTableOf tree classes.now → result ≡ true
+        → may_take utf (class_has tree) item.now b ≡ true }
+    ensures no_lf { result ≡ true → IsTrue lined → b ≢ 10 }
+    ensures all { (tree : TreeParts) → IsTableOf tree classes.now → (IsTrue lined → b ≢ 10)
         → may_take utf (class_has tree) item.now b ≡ true → result ≡ true }
 {
     if lined && b == b'\n' {
@@ -116,7 +120,8 @@ fn byte_ranges(
 ) -> Result<Vec<(u32, u32)>, Memory>
     requires table { IsTableOf tree.now classes.now }
     requires class { All (λ n. n < length classes.now) (class_in item.now) }
-    ensures { IfOk result (λ ranges. HoldsBytes tree.now lined item.now ranges.items) }
+    ensures all { IfOk result (λ ranges. HoldsBytes tree.now lined item.now ranges.items) }
+    ensures only { IfOk result (λ ranges. HoldsOnly tree.now lined item.now ranges.items) }
 {
     let utf = tree.options().utf;
     let (from, to) = span_of(item);
@@ -197,7 +202,8 @@ fn ends_by_lf(tree: &Tree) -> bool
 
 /// A maximum that isn't too large.
 fn most_rounds(max: Option<u16>) -> Option<u32>
-    ensures { (n : ℕ) → IsUpTo max n → IsUpTo result n }
+    ensures more { (n : ℕ) → IsUpTo max n → IsUpTo result n }
+    ensures same { IfSome max (λ n. n ≤ 200) → result ≡ max }
 {
     match max {
         Some(max) if max <= MOST_ROUNDS => Some(max as u32),

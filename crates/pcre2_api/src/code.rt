@@ -1,5 +1,5 @@
 //! A compiled pattern.
-ghost use Rattle.std.specs.Prelude.{◌≡◌, ◌≤◌, ◌<◌, IfOk, IfErr, IfSome, OnOk, Some, None, length, max, slice_get};
+ghost use Rattle.std.specs.Prelude.{◌≡◌, ◌≤◌, ◌<◌, IfOk, IfErr, IfSome, OnOk, Some, None, length, max, slice_get, true};
 ghost use Rattle.std.specs.Option.{option_copied};
 ghost use Rattle.std.specs.Borrow.{sem};
 ghost use Rattle.pat_tree.specs.declared.options.PartialMode.TheVariants.{Off};
@@ -24,7 +24,7 @@ ghost use Rattle.pcre2_api.specs.Matched.{search_of, shown_by, AreParts, IsFound
 ghost use Rattle.pat_needs.specs.Texts.{sets_of};
 ghost use Rattle.pcre2_api.specs.Needed.{FindsNone};
 ghost use Rattle.regex_hir.specs.Meaning.{meaning};
-ghost use Rattle.pcre2_api.specs.Shapes.{MissesLines};
+ghost use Rattle.pcre2_api.specs.Shapes.{MissesLines, FindsLines};
 ghost use Rattle.pcre2_api.specs.Starts.{start_fault};
 ghost use Rattle.match_drive.specs.Starts.{AreAlike};
 
@@ -39,11 +39,10 @@ use pat_build::{read, readings_are_bounded};
 use pat_check::{Facts, check};
 use pat_lengths::first_refused_is_leftmost;
 use pat_needs::ByteText;
-use pat_shape::line_shape;
+use pat_shape::{LineShape, line_shape};
 use pat_tree::{MatchOptions, Memory, NameTable, Options, Tree};
 use pcre_io::Callouts;
 use pcre2_errors::{CompileError, MatchError};
-use regex_hir::Hir;
 use std::alloc::Global;
 use std::marker::Model;
 
@@ -322,16 +321,18 @@ impl Code {
     /// An expression of the kit's for lines of at most `most` bytes without LF: such a line in which no match of it
     /// begins, searched for in the line or in a text that holds the line, has no match, and a search of it from its
     /// begin passes no limit of `options`. Who has many lines need not search such ones; in UTF they must be UTF-8.
-    /// None where no such expression is known.
+    /// Where it is exact a line in which a match of it begins has a match. None where no such expression is known.
     pub fn shape(
         &self,
         alloc: Global,
         most: u32,
         options: &MatchOptions,
-    ) -> Result<Option<Hir>, Memory>
+    ) -> Result<Option<LineShape>, Memory>
         requires { options.now.«partial» ≡ Off }
-        ensures { IfOk result (λ o. IfSome o (λ hir.
-            MissesLines self.now options.now most (meaning hir))) }
+        ensures misses { IfOk result (λ o. IfSome o (λ shape.
+            MissesLines self.now options.now most (meaning shape.hir))) }
+        ensures finds { IfOk result (λ o. IfSome o (λ shape. shape.is_exact ≡ true
+            → FindsLines self.now options.now most (meaning shape.hir))) }
     {
         if !is_length(most) {
             return Ok(None);

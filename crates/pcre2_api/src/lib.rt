@@ -23,6 +23,7 @@ pub use frame_store::Span;
 pub use laws::{searches_are_enough, worked_substitutions};
 pub use match_drive::Scratch;
 pub use pat_needs::ByteText;
+pub use pat_shape::LineShape;
 pub use pat_tree::{Bsr, MatchOptions, NameTable, Newline, Options, PartialMode, Steps};
 pub use pcre_io::{Block, Callouts, NoCallouts};
 pub use pcre2_errors::{CompileError, DfaError, MatchError, SubstError, fault_text};

@@ -22,7 +22,8 @@ use Rattle.ordered_search.specs.Moves.{before, at_end, at_verbs, holding, tread}
 use Rattle.ordered_search.specs.Paths.{Paths, branch_paths, path, row_paths, paths, only_many, behind_paths}
 use Rattle.ordered_search.specs.Paths.{test_path, other_path, pauses, returned, called_path, call_path, ended}
 use Rattle.ordered_search.specs.Paths.{named_path, backs_path, verb_path}
-use Rattle.search_paths.proofs.Streams.{strip, before_each, before_catch_verb, IsStripped, AreStripped, IsSearch}
+use Rattle.search_paths.specs.Pauses.{strip}
+use Rattle.search_paths.proofs.Streams.{before_each, before_catch_verb, IsStripped, AreStripped, IsSearch}
 use Rattle.search_paths.proofs.Streams.{strip_going, ArePaths, strip_parts, strip_holding, strip_hold}
 use Rattle.search_paths.proofs.Streams.{strip_reaching, strip_if, strip_ref, strip_anchor, strip_many}
 use Rattle.search_paths.proofs.Groups.{strip_branches, strip_capture, strip_repeat, strip_behind, strip_over}
@@ -239,14 +240,14 @@ module _ (g : Setting) where
       strip_other tree.no_other = record { is = λ s k l f h j e r. e.same reached s f }
       strip_other (tree.other t) = record { is = strip_path t }
 
-  strip_paths : (d : ℕ) (t : Nested) → IsSearch (paths g d t) (run g d t)
+  pub strip_paths : (d : ℕ) (t : Nested) → IsSearch (paths g d t) (run g d t)
   unfolding before strip paths run
   strip_paths zero t = record { is = λ s k l f h j e r. refl }
   strip_paths (suc d) t = record { is = strip_path d (strip_paths d) t }
 
   -- The walk doesn't see the pauses.
 
-  tread_strip : (n : ℕ) (x : Moves) → tread g n (strip x) ≡ tread g n x
+  pub tread_strip : (n : ℕ) (x : Moves) → tread g n (strip x) ≡ tread g n x
   unfolding tread strip
   tread_strip n (stops e) = refl
   tread_strip n (pause x) = tread_strip n x

@@ -22,7 +22,8 @@ use Rattle.ordered_search.specs.Paths.{branch_paths, try_path, ends_before, trie
 use Rattle.ordered_search.specs.Paths.{only_many, possessive_path, atomic_path, atomic_over, look_path, tested_path}
 use Rattle.ordered_search.specs.Paths.{assert_path, choose_path, answered}
 use Rattle.search_paths.proofs.Possessive.{only_is}
-use Rattle.search_paths.proofs.Streams.{strip, before_or_else, before_each, before_catch, before_catch_alone}
+use Rattle.search_paths.specs.Pauses.{strip}
+use Rattle.search_paths.proofs.Streams.{before_or_else, before_each, before_catch, before_catch_alone}
 use Rattle.search_paths.proofs.Streams.{before_first, before_first_alone, before_first_inside, IsStripped}
 use Rattle.search_paths.proofs.Streams.{AreStripped, strip_catching, IsSearch, ArePaths, strip_holding, strip_hold}
 use Rattle.search_paths.proofs.Streams.{strip_if, strip_many}

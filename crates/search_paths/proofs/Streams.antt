@@ -17,17 +17,11 @@ use Rattle.ordered_search.specs.Setting.{Setting, held, hold, counts, reach, rea
 use Rattle.ordered_search.specs.Tests.{move_to, goes_to, run_ref, run_anchor, offers, greedy, offer_and, reluctant}
 use Rattle.ordered_search.specs.Tests.{lazy_run, run_many}
 use Rattle.ordered_search.specs.Parts.{in_order}
-use Rattle.ordered_search.specs.Moves.{Moves, stops, pause, stepped, noted, found, Follow, Handler, Path, before}
+use Rattle.ordered_search.specs.Moves.{Moves, stops, pause, stepped, noted, Follow, Handler, Path, before}
 use Rattle.ordered_search.specs.Moves.{catching, going, holding, reaching}
 use Rattle.ordered_search.specs.Paths.{ref_path, anchor_path, offer_paths, offer_path, lazy_paths, many_paths}
 use Rattle.ordered_search.specs.Paths.{go_path, parts_path}
-
-unfoldable pub strip : Moves → Moves
-strip (stops e) = stops e
-strip (pause x) = strip x
-strip (stepped x) = stepped (strip x)
-strip (noted n x) = noted n (strip x)
-strip (found how s x) = found how s (strip x)
+use Rattle.search_paths.specs.Pauses.{strip}
 
 -- What follows a stream that is made of others.
 

@@ -1,1 +1,2 @@
 pub mod PathLaw
+pub mod Pauses

@@ -26,7 +26,7 @@ use Rattle.search_starts.proofs.LeadItems.{Out}
 use Rattle.search_starts.proofs.LeadSearch.{Any, Stays, Led, lead_of, quiet_run, led_run}
 
 -- a place without a match: it fails, or a limit is passed
-abbrev IsPassedBy : Walked → Type 0
+abbrev pub IsPassedBy : Walked → Type 0
 IsPassedBy w = (w ≡ answers (Failed Exhausted)) ⊎ (IsLimit (Error w.answer) ⊎ (w.answer ≡ NoDepth))
 
 -- a place that fails does so as one whose search is exhausted
@@ -124,7 +124,7 @@ module _ (g : Setting) where
     abbrev plain : Setting
     plain = with_no_start_optimize true g
 
-    excluded_passes : (p : ℕ) → Here p → is_excluded optimised p ≡ true → IsPassedBy (place_answer g p)
+    pub excluded_passes : (p : ℕ) → Here p → is_excluded optimised p ≡ true → IsPassedBy (place_answer g p)
     excluded_passes p here e =
         passed_by p here (has_accept g.whole) (lead_of g search.off search.bytes search.text p (λ utf. here) g.whole)
         (led_run g search.off search.bytes search.text p (λ utf. here) (match_limit g + 1) g.whole search.unverbed

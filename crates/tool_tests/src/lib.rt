@@ -4,6 +4,8 @@
 #[cfg(test)]
 mod generated;
 #[cfg(test)]
+mod held;
+#[cfg(test)]
 mod inputs;
 #[cfg(test)]
 mod long_words;

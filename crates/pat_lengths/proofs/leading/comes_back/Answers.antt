@@ -40,7 +40,7 @@ loop-next-init c =
       start = start_reached (tree_of t) (trees t.nodes) t.root m places c.requires.places b r g;
       sound = start_sound (tree_of t) (trees t.nodes) t.root m places c.requires.places b r
           c.in_ok-reached.ensures.none g;
-      closed = All-nil (Closed (trees t.nodes) places m r);
+      closed = All-nil (Closed (trees t.nodes) places m r.seen.items);
     }
 
 pub node-node-requires : goal.node-node-requires
@@ -106,8 +106,8 @@ loop-next-preserved c =
           c.loop-next.invariant.sound here g;
       closed = closed_on whole ts t.root m places c.requires.places r new
           (kids_of node ++ places_of places (names_of node)) next 0 g lt c.loop-next.invariant.closed
-          (subst (Closed ts places m new) is (closed_now whole ts t.root m places c.requires.places new id node
-          told.is told.rules.test told.below none g.added));
+          (subst (Closed ts places m new.seen.items) is (closed_now whole ts t.root m places c.requires.places new id
+          node told.is told.rules.test told.below none g.added));
     }
 
 pub returns-then-names : goal.returns-then-names

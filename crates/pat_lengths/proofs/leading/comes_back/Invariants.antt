@@ -12,6 +12,6 @@ invariant-loop-next l = record {
   start : (k : ℕ) → place_of l.groups.places.items l.target ≡ Some k → is_reached l.reached k ≡ true;
   sound : (k : ℕ) → is_reached l.reached k ≡ true →
       Leads (tree_of l.tree) (trees l.tree.nodes) l.target k;
-  closed : All (Closed (trees l.tree.nodes) l.groups.places.items l.target l.reached)
+  closed : All (Closed (trees l.tree.nodes) l.groups.places.items l.target l.reached.seen.items)
       (take l.next l.reached.nodes.items);
 }

@@ -17,14 +17,15 @@ returns c =
     let unset = t.options.match_unset_backref in
     let whole = tree_of t in
     let any = unset || has_shared_number whole in
-    let is : c.has_any_length.result ≡ any = c.has_any_length.ensures ∙ ap (λ b. unset || b) c.requires.shared in
+    let is : c.has_any_length-any.result ≡ any = c.has_any_length-any.ensures
+    ∙ ap (λ b. unset || b) c.requires.shared in
     let can = c.in_ok-can.can.items in
     let passing = c.in_ok-passing.passing.items in
     let within : t.root < length passing = omega (arith, c.in_ok-passing.ensures.count) in
     let read : c.index.result.now ≡ get_or passing t.root c.index.result.now = rw c.root.ensures at c.index.ensures in
     let settled : AreRounds (Passes any) whole (suc (captures whole)) can =
     subst (λ b. AreRounds (Passes b) whole (suc (captures whole)) can) is
-    (subst (λ n. AreRounds (Passes c.has_any_length.result) whole (suc n) can) c.requires.count
+    (subst (λ n. AreRounds (Passes c.has_any_length-any.result) whole (suc n) can) c.requires.count
     c.in_ok-can.ensures) in
     read ∙ get_or_default passing t.root c.index.result.now false within
     ∙ (rw c.deref.ensures.value at c.in_ok-passing.ensures.kept) t.root within

@@ -25,7 +25,7 @@ returns-in-Seq c trees tests kept =
     let below : All (λ k. k < length passing) kids = subst (λ n. All (λ k. k < length passing) (kids_of n))
     c.in-Seq.is c.requires.below in
     rw c.in-Seq.is
-    (rw c.as_slice.ensures at c.all_pass.ensures
+    (rw c.as_slice.ensures at c.every_flag.ensures
     ∙ parts_pass c.args.any can trees (flagged passing) kids
     (all_kept (λ k. flagged passing k ≡ passes c.args.any can (tree_at trees k)) kids (length passing) kept
     below))

@@ -1,0 +1,4 @@
+pub mod Taken
+pub mod Held
+pub mod Blocks
+pub mod Given

@@ -1,0 +1,10 @@
+//! Inputs that are held whole, and the blocks of lines that matches take in them.
+#![tactic(auto)]
+
+mod blocks;
+mod cut;
+mod held;
+
+pub use blocks::{Block, Search};
+pub use cut::{LineStart, Reach};
+pub use held::{Held, HoldError, Text, hold};

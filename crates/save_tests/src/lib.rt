@@ -1,0 +1,5 @@
+//! Images of patterns.
+#![tactic(auto)]
+
+#[cfg(test)]
+mod images;

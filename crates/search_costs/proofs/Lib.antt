@@ -1,0 +1,15 @@
+pub mod DeeperStreams
+pub mod DeeperSearch
+pub mod Failing
+pub mod Onward
+pub mod KeptTasks
+pub mod CostLaw
+pub mod CountLaw
+pub mod Silent
+pub mod LedPaths
+pub mod RecallLaw
+pub mod QuietStreams
+pub mod QuietSearch
+pub mod SeenLaw
+pub mod RunLaw
+pub mod CostRows
