@@ -12,4 +12,6 @@ mod resets;
 #[cfg(test)]
 mod rows;
 #[cfg(test)]
+mod sweeps;
+#[cfg(test)]
 mod utf;

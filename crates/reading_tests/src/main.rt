@@ -12,8 +12,6 @@ mod patterns;
 mod rows;
 mod settings;
 mod shown;
-#[cfg(test)]
-mod sweeps;
 
 use patterns::Patterns;
 use std::process::ExitCode;

@@ -1,23 +1,35 @@
-//! Many short patterns: each is read, or is refused at a place within it.
+//! Many short patterns: each is compiled, or is refused for a fault that has a text, at a place within it.
 //!
 //! Of the 10,000 patterns of the sequence 98 have forms that are left out. Of the others the C library, 10.42, accepts
 //! the same 1,671, with as many groups, and refuses the same.
-use pat_build::{ReadError, read};
-use pat_tree::Options;
+use pcre2_api::{Code, CompileError, Options, fault_text};
 use std::alloc::Global;
 use std::process::Abort;
 use std::test::Fail;
 
-// Whether the pattern is read. Where it isn't, the place of its fault lies within it or at its end.
-fn is_accepted(rt: &impl Abort, alloc: Global, pattern: &[u8]) -> bool {
-    let read = read(alloc, pattern, Options::PLAIN);
-    let is_right = match &read {
-        Ok(_) => true,
-        Err(ReadError::Bad { at, .. }) => *at <= pattern.len(),
-        Err(ReadError::Memory) => false,
+const UTF: Options = Options {
+    utf: true,
+    ..Options::PLAIN
+};
+
+// Whether the pattern is compiled. Where it isn't, its fault has a text, and the place lies within the pattern or at
+// its end.
+fn is_compiled(rt: &impl Abort, alloc: Global, pattern: &[u8], options: Options) -> bool {
+    let refused = match Code::compile(alloc, pattern, options) {
+        Ok(_) => return true,
+        Err(refused) => refused,
+    };
+    let is_right = match refused {
+        CompileError::Bad { number, at } => !fault_text(number).is_empty() && at <= pattern.len(),
+        CompileError::Memory => false,
     };
     assert!(rt; is_right, "{pattern:?}");
-    read.is_ok()
+    false
+}
+
+fn is_accepted(rt: &impl Abort, alloc: Global, pattern: &[u8]) -> bool {
+    let _in_utf = is_compiled(rt, alloc, pattern, UTF);
+    is_compiled(rt, alloc, pattern, Options::PLAIN)
 }
 
 #[test]
