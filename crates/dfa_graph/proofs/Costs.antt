@@ -16,6 +16,7 @@ use Rattle.pat_tree.specs.declared.nodes.Verb.TheVariants.{Accept, Fail, Commit,
 use Rattle.pat_tree.specs.Nested as tree
 use Rattle.pat_tree.specs.Nested.{Nested, Row, test_of, row, tree_at, nest, trees, cond_of, other_of}
 use Rattle.pat_check.specs.Size.{whole_size}
+use Rattle.pat_lengths.specs.declared.backs.Back.{Back}
 use Rattle.dfa_graph.specs.declared.build.Work.{Work}
 use Rattle.dfa_graph.specs.declared.build.Work.TheVariants as work
 use Rattle.dfa_graph.specs.declared.build.Work.TheVariants.{All, Any, Turn, Ask, Behind}
@@ -266,7 +267,7 @@ module _ (ps : List placed.Placed) where
       let c = first_costs p from k e in
       (b.0, b.1, omega (arith, c))
 
-  behind_leaves : (p d from next : ℕ) (backs : List ℕ) (o : Option ℕ) →
+  behind_leaves : (p d from next : ℕ) (backs : List Back) (o : Option ℕ) →
       slice_get (ids_of (node_of ps p)) from ≡ o →
       all_have (row_from ps p from) (d - 1) ≡ true →
       Leaves d (row_cost (row_from ps p from)) (behind_step backs p from next o)
@@ -419,7 +420,7 @@ module _ (ps : List placed.Placed) where
   ask_leaves p d yes' no' (part.VerbNode v) e t h = absurd (false≢true t)
   ask_leaves p d yes' no' (part.Callout number from to pos len) e t h = absurd (false≢true t)
 
-  pub step_leaves : (classes : ℕ) (backs : List ℕ) (w : Work) (d next root : ℕ) →
+  pub step_leaves : (classes : ℕ) (backs : List Back) (w : Work) (d next root : ℕ) →
       IsPart ps classes (part_of w) → IsWork ps root w →
       work_has w d ≡ true → Leaves d (work_cost w) (step_of ps backs w d next)
   step_leaves classes backs (work.Part p) d next root k ok h =
@@ -558,7 +559,7 @@ module _ (ps : List placed.Placed) where
   leaves_some d n (step.Reach back a b) k = (refl, let m = k.2 in omega (arith, m))
 
   -- as the code does a step
-  module _ (classes root left : ℕ) (backs : List ℕ) (ts rest : List Task) (t : Task)
+  module _ (classes root left : ℕ) (backs : List Back) (ts rest : List Task) (t : Task)
       (can : Can left ts)
       (pop : ts ≡ rest ++ t ∷ []) (ok : IsWork ps root t.work) where
     here : Can left (rest ++ t ∷ [])

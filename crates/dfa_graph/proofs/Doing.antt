@@ -3,6 +3,7 @@ use Rattle.std.proofs.Common.{◌≡◌, ◌∙◌, ℕ, ◌+◌, ◌<◌, ◌�
 use Rattle.std.proofs.Common.{refl, sym, ap, subst, inl, inr, arith, length-append, length-set}
 use Rattle.std.specs.Prelude.{slice_get, slice_set}
 use Rattle.pat_tree.specs.declared.nodes.Placed as placed
+use Rattle.pat_lengths.specs.declared.backs.Back.{Back}
 use Rattle.dfa_paths.specs.declared.graph.Node.{Node}
 use Rattle.dfa_paths.specs.declared.graph.Node.TheVariants.{Split, Goto, Look, Atomic, Dead}
 use Rattle.dfa_graph.specs.declared.build.Work.{Work}
@@ -25,7 +26,7 @@ module _ (ps : List placed.Placed) (root classes : ℕ) where
   module _ (nodes : List Node) (rest : List Task) (t : Task)
       (h : Building ps root classes nodes (rest ++ t ∷ []))
     where
-      module _ (backs : List ℕ) (told : AreTold ps root backs)
+      module _ (backs : List Back) (told : AreTold ps root backs)
           (ok : IsPart ps classes (part_of t.work)) where
         here : (final : List Node) →
             StepPlaced ps final (step_of ps backs t.work t.depth t.next) t.depth t.at t.next →
@@ -639,7 +640,7 @@ module _ (ps : List placed.Placed) (root classes : ℕ) where
             (subst (λ s. StepPlaced ps final s t.depth t.at t.next) (sym e)
             (length nodes, d.0, d.1.0, d.1.1.0)))
 
-        reach_done : (back : ℕ) (a b : Work) →
+        reach_done : (back : Back) (a b : Work) →
             step_of ps backs t.work t.depth t.next ≡ step.Reach back a b → IsWork ps root a →
             IsWork ps root b →
             Building ps root classes (slice_set (nodes ++ Dead ∷ Dead ∷ []) t.at
@@ -689,7 +690,7 @@ module _ (ps : List placed.Placed) (root classes : ℕ) where
             (top_work ps root classes nodes rest t h)
             next_len) f
 
-  pub next_step : (backs : List ℕ) → AreTold ps root backs → (nodes nodes' : List Node)
+  pub next_step : (backs : List Back) → AreTold ps root backs → (nodes nodes' : List Node)
       (ts rest ts' : List Task) (t : Task) (s : Step) → Building ps root classes nodes ts →
       ts ≡ rest ++ t ∷ [] →
       IsPart ps classes (part_of t.work) → s ≡ step_of ps backs t.work t.depth t.next →

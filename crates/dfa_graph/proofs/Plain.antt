@@ -14,6 +14,7 @@ use Rattle.pat_tree.specs.declared.nodes.Verb.{Verb}
 use Rattle.pat_tree.specs.declared.nodes.Verb.TheVariants.{Accept, Fail, Commit, Prune, Skip, Then, Mark}
 use Rattle.pat_tree.specs.Nested as tree
 use Rattle.pat_tree.specs.Nested.{Nested, row, tree_at, nest, trees, cond_of, other_of}
+use Rattle.pat_lengths.specs.declared.backs.Back.{Back}
 use Rattle.dfa_paths.specs.declared.graph.Node.{Node}
 use Rattle.dfa_paths.specs.declared.graph.Node.TheVariants.{Split, Dead, Match}
 use Rattle.dfa_graph.specs.declared.build.Work.{Work}
@@ -215,7 +216,7 @@ module _ (ps : List placed.Placed) where
   turns_stay p zero next (Some (suc high)) ok h =
       (h, or_right (is_never (Some high)) (turn_plain (tree_of ps p)) h)
 
-  step_stays : (classes : ℕ) (backs : List ℕ) (w : Work) (d next : ℕ) →
+  step_stays : (classes : ℕ) (backs : List Back) (w : Work) (d next : ℕ) →
       IsPart ps classes (part_of w) → IsTurnRange w →
       work_plain w ≡ true → Stays (step_of ps backs w d next)
   step_stays classes backs (work.Part p) d next k ok h =
@@ -287,7 +288,7 @@ module _ (ps : List placed.Placed) where
       (subst IsFlat (sym en) first_flat, subst AllPlain (sym et) (plain, tt))
 
   -- as the code does a step
-  pub plain_step : (classes : ℕ) (backs : List ℕ) (nodes nodes' : List Node)
+  pub plain_step : (classes : ℕ) (backs : List Back) (nodes nodes' : List Node)
       (ts rest ts' : List Task)
       (t : Task) (s : Step) →
       IsPlainBuild nodes ts → ts ≡ rest ++ t ∷ [] → IsTurnRange t.work →

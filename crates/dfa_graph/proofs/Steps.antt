@@ -2,7 +2,7 @@
 use Rattle.std.proofs.Common.{◌≡◌, ◌∙◌, ℕ, zero, suc, ◌+◌, ◌-◌, ◌<◌, ◌≤◌, Bool, true, false, List, [], ◌∷◌, map}
 use Rattle.std.proofs.Common.{drop, length, Option, Some, None, refl, sym, ap, subst, inl, inr, arith, eqb-true}
 use Rattle.std.specs.Prelude as list
-use Rattle.std.specs.Prelude.{◌==◌, slice_get, slice_index_or, option_map}
+use Rattle.std.specs.Prelude.{◌==◌, slice_get, option_map}
 use Rattle.std.proofs.lemmas.Bool.{false≢true}
 use Rattle.pat_tree.specs.declared.nodes.Placed as placed
 use Rattle.pat_tree.specs.declared.nodes.Node as parts
@@ -21,7 +21,8 @@ use Rattle.dfa_graph.specs.declared.build.Work.TheVariants as work
 use Rattle.dfa_graph.specs.declared.build.Work.TheVariants.{All, Any, Turn, Ask, Behind}
 use Rattle.dfa_graph.specs.declared.build.Step.{Step}
 use Rattle.dfa_graph.specs.declared.build.Step.TheVariants as step
-use Rattle.pat_lengths.specs.Backs.{behind_branches}
+use Rattle.pat_lengths.specs.Backs.{behind_branches, back_at}
+use Rattle.pat_lengths.specs.declared.backs.Back.{Back}
 use Rattle.dfa_paths.specs.Graph.{IsNodeIn}
 use Rattle.dfa_paths.specs.Fragment as fragment
 use Rattle.dfa_paths.specs.Fragment.{Part, IsNode, Copies, Options, VerbPlaced, Placed, AllPlaced, AnyPlaced}
@@ -506,9 +507,9 @@ module _ (ps : List placed.Placed) where
       skip_turn final (TurnPlaced final (tree_of ps p) d) high at next h.0 h.1 h.2 h.3 h.4
 
   -- the branches of a lookbehind have the lengths that are told
-  behind_core : (p from d next : ℕ) (backs : List ℕ) (o : Option ℕ) →
+  behind_core : (p from d next : ℕ) (backs : List Back) (o : Option ℕ) →
       slice_get (ids_of (node_of ps p)) from ≡ o →
-      ((k : ℕ) → o ≡ Some k → HasBack (tree_of ps k) (slice_index_or backs k 0)) →
+      ((k : ℕ) → o ≡ Some k → HasBack (tree_of ps k) (back_at backs k)) →
       (final : List Node) (at : ℕ) →
       StepPlaced final (behind_step backs p from next o) d at next →
       BehindPlaced final (row_from ps p from) (d - 1) next (next - 1) at
@@ -519,7 +520,7 @@ module _ (ps : List placed.Placed) where
   behind_core p from d next backs (Some k) e known final at h =
       subst (λ xs. BehindPlaced final (row (map (tree_at (trees ps)) xs)) (d - 1) next
       (next - 1) at) (sym (drop_some _ from k e))
-      (slice_index_or backs k 0, h.0, h.1, known k refl, h.2, h.3, h.4, h.5)
+      (back_at backs k, h.0, h.1, known k refl, h.2, h.3, h.4, h.5)
 
   -- the branches of a part that is a lookbehind
   behind_ids : (m : parts.Node) → is_behind (nest (trees ps) m) ≡ true →
@@ -528,10 +529,10 @@ module _ (ps : List placed.Placed) where
   behind_ids (part.Look true positive once branches) e = absurd (false≢true e)
   behind_ids _ e = absurd (false≢true e)
 
-  told_back : (classes p from root : ℕ) (backs : List ℕ) → IsPart ps classes p →
+  told_back : (classes p from root : ℕ) (backs : List Back) → IsPart ps classes p →
       IsWork root (Behind p from) → AreTold ps root backs → (k : ℕ) →
       slice_get (ids_of (node_of ps p)) from ≡ Some k →
-      HasBack (tree_of ps k) (slice_index_or backs k 0)
+      HasBack (tree_of ps k) (back_at backs k)
   told_back classes p from root backs part ok told k e =
       let behind : is_behind (nest (trees ps) (node_of ps p)) ≡ true = ap is_behind part.is
       ∙ ok.asked in
@@ -545,7 +546,7 @@ module _ (ps : List placed.Placed) where
       subst (HasBack (tree_of ps k))
       (sym (told k b.0 (omega (arith, below, inside)) b.1 b.2)) b.1
 
-  pub step_means : (classes : ℕ) (backs : List ℕ) (w : Work) (d next root : ℕ) →
+  pub step_means : (classes : ℕ) (backs : List Back) (w : Work) (d next root : ℕ) →
       IsPart ps classes (part_of w) → IsWork root w → AreTold ps root backs →
       (final : List Node) (at : ℕ) → StepPlaced final (step_of ps backs w d next) d at next →
       WorkPlaced ps final w d at next

@@ -16,6 +16,7 @@ use Rattle.pat_tree.specs.Nested as tree
 use Rattle.pat_tree.specs.Nested.{Nested, Row, row, tree_at, nest, trees, cond_of, other_of, test_of}
 use Rattle.pat_tree.specs.Rules.{is_test}
 use Rattle.pat_check.specs.Size.{copies, whole_size, size_of_all, size_of_test, size_of_other}
+use Rattle.pat_lengths.specs.declared.backs.Back.{Back}
 use Rattle.dfa_paths.specs.declared.graph.Node.{Node}
 use Rattle.dfa_paths.specs.declared.graph.Node.TheVariants.{Split, Goto, Look, Atomic, Dead, Match}
 use Rattle.dfa_graph.specs.declared.build.Work.{Work}
@@ -325,7 +326,7 @@ module _ (ps : List placed.Placed) where
       first_most _ (size_of_all (rest_of ps p from)) _ (first_sizes p from k e)
   any_holds p from next (Some k) false e = both_most _ _ _ (first_sizes p from k e)
 
-  behind_holds : (p from next : ℕ) (backs : List ℕ) (o : Option ℕ) →
+  behind_holds : (p from next : ℕ) (backs : List Back) (o : Option ℕ) →
       slice_get (ids_of (node_of ps p)) from ≡ o →
       Holds (size_of_all (row_from ps p from)) (behind_step backs p from next o)
   behind_holds p from next backs None e = none_most _
@@ -410,7 +411,7 @@ module _ (ps : List placed.Placed) where
   ask_holds p d yes' no' (part.VerbNode v) e t = tt
   ask_holds p d yes' no' (part.Callout number from to pos len) e t = tt
 
-  step_holds : (classes : ℕ) (backs : List ℕ) (w : Work) (d next root : ℕ) →
+  step_holds : (classes : ℕ) (backs : List Back) (w : Work) (d next root : ℕ) →
       IsPart ps classes (part_of w) → IsWork ps root w →
       Holds (work_size w) (step_of ps backs w d next)
   step_holds classes backs (work.Part p) d next root k ok =
@@ -524,7 +525,7 @@ module _ (ps : List placed.Placed) where
       omega (arith, n, e)
 
   -- as the code does a step
-  pub bounded_step : (classes root n : ℕ) (backs : List ℕ) (nodes nodes' : List Node)
+  pub bounded_step : (classes root n : ℕ) (backs : List Back) (nodes nodes' : List Node)
       (ts rest ts' : List Task)
       (t : Task) (s : Step) →
       IsBounded n nodes ts → ts ≡ rest ++ t ∷ [] → IsWork ps root t.work →

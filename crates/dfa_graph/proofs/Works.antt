@@ -13,6 +13,7 @@ use Rattle.pat_tree.specs.declared.nodes.Verb.TheVariants.{Accept, Fail, Commit,
 use Rattle.pat_tree.specs.Rules.{kids_of, classes_of, tests_of, asserted_by, is_test, IsOrdered, AtMost}
 use Rattle.pat_tree.specs.Nested as tree
 use Rattle.pat_tree.specs.Nested.{row, tree_at, nest, trees}
+use Rattle.pat_lengths.specs.declared.backs.Back.{Back}
 use Rattle.dfa_graph.specs.declared.build.Work.{Work}
 use Rattle.dfa_graph.specs.declared.build.Work.TheVariants as work
 use Rattle.dfa_graph.specs.declared.build.Work.TheVariants.{All, Any, Turn, Ask, Behind}
@@ -272,7 +273,7 @@ module _ (ps : List placed.Placed) where
     ask_ok yes' no' d (part.VerbNode v) is a b below t = tt
     ask_ok yes' no' d (part.Callout number from to pos len) is a b below t = tt
 
-    behind_ok : (backs : List ℕ) (from : ℕ) (o : Option ℕ) →
+    behind_ok : (backs : List Back) (from : ℕ) (o : Option ℕ) →
         slice_get (ids_of (node_of ps p)) from ≡ o →
         list.All (Under p) (ids_of (node_of ps p)) → is_behind (tree_at (trees ps) p) ≡ true →
         IsStep ps root states classes (behind_step backs p from next o)
@@ -291,7 +292,7 @@ module _ (ps : List placed.Placed) where
         (subst IsReady (sym part.is) ready) i o j,
   )
 
-  pub step_ok : (classes : ℕ) (backs : List ℕ) (w : Work) (d next root states : ℕ) →
+  pub step_ok : (classes : ℕ) (backs : List Back) (w : Work) (d next root states : ℕ) →
       IsPart ps classes (part_of w) → IsWork ps root w → next < states →
       IsStep ps root states classes (step_of ps backs w d next)
   step_ok classes backs (work.Part p) d next root states k ok l =

@@ -13,6 +13,8 @@ use Rattle.pat_tree.specs.Nested as tree
 use Rattle.pat_tree.specs.Nested.{Nested, Row, row, tree_at, nest, trees, test_of, other_of}
 use Rattle.pat_tree.specs.declared.nodes.Cond.{Cond}
 use Rattle.pat_tree.specs.declared.nodes.Cond.TheVariants as cond
+use Rattle.pat_lengths.specs.Backs.{back_at}
+use Rattle.pat_lengths.specs.declared.backs.Back.{Back}
 use Rattle.dfa_paths.specs.declared.graph.Node.{Node}
 use Rattle.dfa_paths.specs.declared.graph.Node.TheVariants.{One, Break, Anchor, Split, Goto, Look, Atomic, Dead}
 use Rattle.dfa_graph.specs.declared.build.Work.{Work}
@@ -124,10 +126,10 @@ any_step p from (Some k) false = Fork (work.Part k) (Any p (from + 1))
 
 -- the branches of a lookbehind from one on: each is tried so far back, and where none has an end,
 -- the state before the next follows
-abbrev pub behind_step : List ℕ → ℕ → ℕ → ℕ → Option ℕ → Step
+abbrev pub behind_step : List Back → ℕ → ℕ → ℕ → Option ℕ → Step
 behind_step backs p from next None = Write (Goto (next - 1))
 behind_step backs p from next (Some k) =
-    Reach (slice_index_or backs k 0) (work.Part k) (Behind p (from + 1))
+    Reach (back_at backs k) (work.Part k) (Behind p (from + 1))
 
 abbrev pub turn_step : ℕ → parts.Node → Step
 turn_step next (part.Repeat body min max lazy) = Hand (work.Part body)
@@ -143,7 +145,7 @@ turns_step p next zero (Some (suc high)) = Skip (Turn p) (work.Turns p 0 (Some h
 abbrev pub node_of : List placed.Placed → ℕ → parts.Node
 node_of ps p = (slice_index_or ps p (record { node = part.Empty; at = 0 })).node
 
-abbrev pub step_of : List placed.Placed → List ℕ → Work → ℕ → ℕ → Step
+abbrev pub step_of : List placed.Placed → List Back → Work → ℕ → ℕ → Step
 step_of ps backs (work.Part p) d next = part_step p d next (node_of ps p)
 step_of ps backs (All p from) d next = all_step p from next (slice_get (ids_of (node_of ps p)) from)
 step_of ps backs (Any p from) d next =

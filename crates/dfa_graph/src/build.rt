@@ -7,7 +7,7 @@ ghost use Rattle.dfa_graph.specs.Building.{part_of, ids_of, IsRange, IsTurnRange
 ghost use Rattle.dfa_graph.specs.Building.{turn_step, turns_step, behind_step, step_of, node_of, IsPart, tree_of};
 ghost use Rattle.dfa_graph.specs.Building.{cond_step, ask_step, nested_step, look_step, verb_step, is_refused};
 ghost use Rattle.dfa_graph.specs.declared.build.Work.TheVariants as work;
-ghost use Rattle.pat_lengths.specs.Backs.{AreBacks, first_fault, mosts};
+ghost use Rattle.pat_lengths.specs.Backs.{AreBacks, first_fault};
 ghost use Rattle.pat_check.specs.Support.{dfa_support};
 ghost use Rattle.pat_check.specs.declared.support.DfaSupport.TheVariants.{Yes};
 ghost use Rattle.dfa_paths.specs.Fragment.{AreStatesOf};
@@ -17,7 +17,7 @@ ghost use Rattle.pat_check.specs.Size.{whole_size};
 use crate::draft::GraphDraft;
 use crate::forms::do_step;
 use dfa_paths::Node;
-use pat_lengths::Backs;
+use pat_lengths::{Back, Backs};
 use pat_tree::{Cond, Memory, Node as Part, NodeId, Tree, Verb};
 use std::alloc::Global;
 
@@ -132,9 +132,9 @@ pub(crate) enum Step {
         yes: Work,
         no: Option<Work>,
     },
-    /// A branch of a lookbehind, so many characters long, that is nested, and those after it.
+    /// A branch of a lookbehind, of these lengths, that is nested, and those after it.
     Reach {
-        back: u32,
+        back: Back,
         branch: Work,
         rest: Work,
     },
@@ -364,8 +364,7 @@ fn any_work(node: &Part, part: NodeId, from: usize) -> Step
 /// What the branches of a lookbehind from one on come to.
 fn behind_work(node: &Part, backs: &Backs, part: NodeId, from: usize, next: u32) -> Step
     requires kids { All (λ k. k < length backs.now) (ids_of node.now) }
-    ensures { result
-        ≡ behind_step (mosts backs.now) part from next (slice_get (ids_of node.now) from) }
+    ensures { result ≡ behind_step backs.now part from next (slice_get (ids_of node.now) from) }
 {
     match kid(node, from) {
         None => Step::Write {
@@ -374,7 +373,7 @@ fn behind_work(node: &Part, backs: &Backs, part: NodeId, from: usize, next: u32)
             },
         },
         Some(branch) => Step::Reach {
-            back: backs.most(branch),
+            back: backs.of(branch),
             branch: Work::Part { part: branch },
             rest: Work::Behind {
                 part,
@@ -456,7 +455,7 @@ fn work_step(tree: &Tree, backs: &Backs, work: Work, depth: u32, next: u32) -> S
     requires backs { AreBacks tree.now backs.now }
     requires part { part_of work ≤ tree.now.root }
     requires range { IsTurnRange work }
-    ensures is { result ≡ step_of tree.now.nodes (mosts backs.now) work depth next }
+    ensures is { result ≡ step_of tree.now.nodes backs.now work depth next }
     ensures part { IsPart tree.now.nodes (length tree.now.classes) (part_of work) }
 {
     let part = work_part(work);
@@ -470,7 +469,7 @@ fn node_step(node: &Part, backs: &Backs, part: NodeId, work: Work, depth: u32, n
     requires range { IsTurnRange work }
     requires kids { All (λ k. k < length backs.now) (ids_of node.now) }
     ensures { (ps : List Placed) → node.now ≡ node_of ps part
-        → result ≡ step_of ps (mosts backs.now) work depth next }
+        → result ≡ step_of ps backs.now work depth next }
 {
     match work {
         Work::Part { .. } => part_work(node, part, depth, next),

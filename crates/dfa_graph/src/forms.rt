@@ -8,6 +8,7 @@ ghost use Rattle.dfa_graph.specs.declared.build.Step.TheVariants.{Reach};
 use crate::build::{Step, Task, Work};
 use crate::draft::GraphDraft;
 use dfa_paths::Node;
+use pat_lengths::Back;
 use pat_tree::Memory;
 
 /// Does a step: the state of its task is written, and what is left becomes new tasks.
@@ -217,7 +218,7 @@ fn decide(
 /// The step of a branch of a lookbehind.
 fn reach(
     done: Task,
-    back: u32,
+    back: Back,
     branch: Work,
     rest: Work,
     draft: &mut GraphDraft,

@@ -12,9 +12,9 @@ use Rattle.dfa_ends.proofs.Steps.{break_steps}
 use Rattle.dfa_paths.specs.declared.graph.Node.{Node}
 use Rattle.dfa_paths.specs.declared.graph.Node.TheVariants.{One, Break, Anchor, Split, Goto, Look, Atomic, Dead, Match}
 use Rattle.dfa_lists.specs.declared.lists.Seed.{Seed}
-use Rattle.dfa_paths.specs.Graph.{takes, is_match, moves, lands, target, Inner, Furthest, Begins, Follows, Leaps}
+use Rattle.dfa_paths.specs.Graph.{takes, is_match, moves, lands, target, Inner, Furthest, Begins, Tried, Follows}
 use Rattle.dfa_paths.specs.Graph.{Accepts, matched, moved, landed, ended, missed, went, Deep, SomeAccepts, Comes}
-use Rattle.dfa_paths.specs.Graph.{here, on, IsNodeIn, count_if}
+use Rattle.dfa_paths.specs.Graph.{Leaps, here, on, IsNodeIn, count_if}
 use Rattle.dfa_paths.specs.Fragment.{Rising}
 use Rattle.dfa_lists.specs.Lists.{IsClosed, closure, kept, is_stop, stops, stops_from}
 use Rattle.dfa_paths.proofs.Places.{among_push}
@@ -147,13 +147,17 @@ module _ (g : Scene) (nodes : List Node) (B : Inner) (end : ℕ) where
         let there = subst (λ p. lands g n p ≡ Some k) here_is l in
         inr (inl (q, n, k, h.all_are_kept q c (n, e, lands_takes g i k n there), e, there, t))
     leave _ _ (ended q j back entry yes' no' p k e b y t) here_is c =
+        let there = subst (λ x. Tried B back x entry p k) here_is y in
         leave yes' j t here_is
         (on q yes' (Look back entry yes' no') c e
-        (inl ((p, k, subst (λ x. Begins g back x p) here_is b, y), refl)))
+        (inl ((p, k, subst (λ x. Begins g back x p) here_is b, there), refl)))
     leave _ _ (missed q j back entry yes' no' e none t) here_is c =
         leave no' j t here_is
         (on q no' (Look back entry yes' no') c e
-        (inr (subst (λ x. (p k : ℕ) → Begins g back x p → B entry p k → ⊥) here_is none, refl)))
+        (inr (
+          subst (λ x. (p k : ℕ) → Begins g back x p → Tried B back x entry p k → ⊥) here_is none,
+          refl,
+        )))
     leave _ _ (went q j entry next k e b far t) here_is c =
         let furthest : Furthest B entry i k = subst (λ p. Furthest B entry p k) here_is (b, far) in
         elim (at_or_past i k (on_from entry k furthest.0)) [

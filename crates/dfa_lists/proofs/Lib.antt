@@ -5,3 +5,4 @@ pub mod Following
 pub mod Running
 pub mod Visits
 pub mod Telling
+pub mod BranchTries

@@ -2,13 +2,13 @@
 use Rattle.std.proofs.Common.{◌≡◌, ◌∙◌, ℕ, ◌+◌, ◌<◌, ◌≤◌, ◌⊎◌, Bool, true, false, List, [], ◌∷◌, ◌++◌, length}
 use Rattle.std.proofs.Common.{replicate, Option, Some, None, refl, Result, Ok, Err, sym, ap, subst, inl, inr, arith}
 use Rattle.std.proofs.lemmas.Bool.{false≢true}
-use Rattle.std.specs.Prelude.{◌||◌, IfOk, drop, slice_get, slice_index_or, slice_set}
+use Rattle.std.specs.Prelude.{◌||◌, IfOk, slice_get, slice_index_or, slice_set}
 use Rattle.char_sets.specs.Table.{CharSet}
 use Rattle.match_items.specs.declared.view.View.{View}
 use Rattle.match_items.specs.Scene.{Scene}
-use Rattle.match_items.specs.Items.{places_back}
 use Rattle.match_items.specs.Views.{bare_text, text_scene}
 use Rattle.match_items.specs.Laws.{Stands, StandsAlong}
+use Rattle.dfa_paths.specs.pat_lengths.declared.backs.Back.{Back}
 use Rattle.dfa_ends.specs.Ends.{Among}
 use Rattle.dfa_paths.specs.declared.graph.Node.{Node}
 use Rattle.dfa_paths.specs.declared.graph.Node.TheVariants.{One, Break, Anchor, Split, Goto, Look, Atomic, Dead, Match}
@@ -27,7 +27,6 @@ use Rattle.dfa_lists.proofs.Landing.{SomeHolds, Leads, holds_later, holds_still,
 use Rattle.dfa_lists.proofs.Closing.{Marked, Going, marked_old, all_false, comes_marked}
 use Rattle.dfa_lists.proofs.Running.{Running, causes_of, goes_on}
 use Rattle.dfa_lists.proofs.Following.{EndsStand, lands_takes, at_or_past}
-use Rattle.dfa_lists.proofs.Visits.{places_same, begins_by}
 
 -- A flag.
 
@@ -352,7 +351,7 @@ module _ (g : Scene) (nodes : List Node) (counts : Bool) (B : Inner) (M : Meetin
       told_or _ a b (tells g counts n i) e (λ t. inl t)
       (λ y. (elim y [ inl t ↦ t | inr z ↦ absurd (plain_inside n i flat z) ]))
 
-  pub look_told : (back : Option ℕ) (entry hit miss i : ℕ) (a b : Bool) →
+  pub look_told : (back : Option Back) (entry hit miss i : ℕ) (a b : Bool) →
       IsTold (Asks g nodes counts B M back entry miss i) a b →
       IsTold (Telling g nodes counts B M (Look back entry hit miss) i) a b
   look_told back entry hit miss i a b h =
@@ -379,31 +378,6 @@ plain_tells (Err x) v table nodes counts B M n i a b flat e = tt
 
 -- Lookbehinds.
 
-pub behind_none : (v : View) (table : List CharSet) (M : Meeting) (back entry i : ℕ)
-    (o : Option ℕ) (a b : Bool) → o ≡ slice_get (places_back (bare_text v) back i) back →
-    o ≡ None → b ≡ a → IsTold (MeetsBehind (text_scene v table) M back entry i) a b
-unfolding Among
-behind_none v table M back entry i o a b e n same =
-    told_not _ a b same (λ y. subst (Among y.0)
-    (begins_by back i (text_scene v table) None
-    (ap (λ ps. slice_get ps back) (sym (places_same v table back i)) ∙ sym e ∙ n)) y.1)
-
-pub behind_some : {E : Type 0} {A : Type 0} (r : Result A E) (v : View) (table : List CharSet)
-    (M : Meeting) (back entry i place : ℕ) (o : Option ℕ) (a b : Bool) →
-    o ≡ slice_get (places_back (bare_text v) back i) back → o ≡ Some place →
-    IfOk r (λ _. IsTold (M entry place) a b) →
-    IfOk r (λ _. IsTold (MeetsBehind (text_scene v table) M back entry i) a b)
-unfolding Among
-behind_some (Ok x) v table M back entry i place o a b e n h =
-    let begins : drop back (places_back (text_scene v table) back i) ≡ place ∷ [] = begins_by back i
-    (text_scene v table) (Some place)
-    (ap (λ ps. slice_get ps back) (sym (places_same v table back i)) ∙ sym e ∙ n) in
-    told_by _ _ a b (λ z. (place, subst (Among place) (sym begins) (inl refl), z))
-    (λ y. (
-    let one : (y.0 ≡ place) ⊎ ⊥ = subst (Among y.0) begins y.1 in
-    elim one [ inl same ↦ subst (λ p. M entry p) same y.2 | inr none ↦ absurd none ])) h
-behind_some (Err x) v table M back entry i place o a b e n h = tt
-
 module _ (g : Scene) (nodes : List Node) (counts : Bool) (M : Meeting) (i : ℕ) where
   -- the branches from a state on, of which those before q are done
   pub record Probing (first q : ℕ) (old told : Bool) : Type 0 where
@@ -416,7 +390,7 @@ module _ (g : Scene) (nodes : List Node) (counts : Bool) (M : Meeting) (i : ℕ)
   begin_probing first old =
       record { stays = λ t. t; rest = λ p. inr p; before = λ p. p; causes = λ t. inl t }
 
-  pub one_probed : (first q back entry hit miss : ℕ) (old told told' : Bool) →
+  pub one_probed : (first q : ℕ) (back : Back) (entry hit miss : ℕ) (old told told' : Bool) →
       slice_get nodes q ≡ Some (Look (Some back) entry hit miss) → q < miss →
       IsTold (MeetsBehind g M back entry i) told told' → Probing first q old told →
       Probing first miss old told'
@@ -437,7 +411,7 @@ module _ (g : Scene) (nodes : List Node) (counts : Bool) (M : Meeting) (i : ℕ)
   }
 
   -- no branch follows, or none whose state is later
-  pub last_probed : (first q back entry hit miss : ℕ) (old told told' : Bool) →
+  pub last_probed : (first q : ℕ) (back : Back) (entry hit miss : ℕ) (old told told' : Bool) →
       slice_get nodes q ≡ Some (Look (Some back) entry hit miss) → miss ≤ q →
       IsTold (MeetsBehind g M back entry i) told told' → Probing first q old told →
       IsTold (Probes g nodes counts M i first) old told'
@@ -456,7 +430,7 @@ module _ (g : Scene) (nodes : List Node) (counts : Bool) (M : Meeting) (i : ℕ)
     ]);
   }
 
-  pub all_probed : (first q : ℕ) (old told : Bool) → ((back entry hit miss : ℕ) →
+  pub all_probed : (first q : ℕ) (old told : Bool) → ((back : Back) (entry hit miss : ℕ) →
       slice_get nodes q ≡ Some (Look (Some back) entry hit miss) → ⊥) →
       Probing first q old told → IsTold (Probes g nodes counts M i first) old told
   all_probed first q old told none h = record {
@@ -534,7 +508,7 @@ probed_all g nodes counts M i first q n r old told is read none h =
 -- A branch has no end, or the later ones are tried too.
 
 pub asked_none : (g : Scene) (nodes : List Node) (counts : Bool) (B : Inner) (M : Meeting)
-    (back entry miss i : ℕ) (some : Option ℕ) (a b : Bool) → some ≡ None →
+    (back : Back) (entry miss i : ℕ) (some : Option ℕ) (a b : Bool) → some ≡ None →
     IsEndBehind g B (Some back) entry i some → IsTold (MeetsBehind g M back entry i) a b →
     IsTold (Asks g nodes counts B M (Some back) entry miss i) a b
 asked_none g nodes counts B M back entry miss i None a b e none t =
@@ -545,7 +519,7 @@ asked_none g nodes counts B M back entry miss i None a b e none t =
 asked_none g nodes counts B M back entry miss i (Some j) a b e none t = absurd cc
 
 pub asked_some : (g : Scene) (nodes : List Node) (counts : Bool) (B : Inner) (M : Meeting)
-    (back entry miss i j : ℕ) (some : Option ℕ) (a b c : Bool) → some ≡ Some j →
+    (back : Back) (entry miss i j : ℕ) (some : Option ℕ) (a b c : Bool) → some ≡ Some j →
     IsEndBehind g B (Some back) entry i some → IsTold (MeetsBehind g M back entry i) a b →
     IsTold (Probes g nodes counts M i miss) b c →
     IsTold (Asks g nodes counts B M (Some back) entry miss i) a c

@@ -1,13 +1,10 @@
 -- What a visit of a state gives.
-use Rattle.std.proofs.Common.{◌≡◌, ◌∙◌, ℕ, zero, suc, ◌<◌, ◌≤◌, Bool, true, false, List, [], ◌∷◌, ◌++◌, length}
+use Rattle.std.proofs.Common.{◌≡◌, ◌∙◌, ℕ, ◌<◌, ◌≤◌, Bool, true, false, List, [], ◌∷◌, ◌++◌, length}
 use Rattle.std.proofs.Common.{Option, Some, None, refl, Result, Ok, Err, sym, ap, subst, inl, inr, arith, eqb-true}
-use Rattle.std.specs.Prelude.{◌==◌, drop, slice_get, IfOk}
-use Rattle.char_sets.specs.Table.{CharSet}
-use Rattle.match_items.specs.declared.view.View.{View}
+use Rattle.std.specs.Prelude.{◌==◌, IfOk}
 use Rattle.match_items.specs.Scene.{Scene}
-use Rattle.match_items.specs.Items.{places_back}
-use Rattle.match_items.specs.Views.{bare_text, text_scene}
 use Rattle.match_items.specs.Laws.{Stands}
+use Rattle.dfa_paths.specs.pat_lengths.declared.backs.Back.{Back}
 use Rattle.dfa_ends.specs.Ends.{Among}
 use Rattle.dfa_paths.specs.declared.graph.Node.{Node}
 use Rattle.dfa_paths.specs.declared.graph.Node.TheVariants.{One, Break, Anchor, Split, Goto, Look, Atomic, Dead, Match}
@@ -66,7 +63,7 @@ plain_visit g B n i seeds seeds' later plain e few = record {
   few = few;
 }
 
-pub plain_node : (n : Node) → ((w : Option ℕ) (x y z : ℕ) → n ≡ Look w x y z → ⊥) →
+pub plain_node : (n : Node) → ((w : Option Back) (x y z : ℕ) → n ≡ Look w x y z → ⊥) →
     ((x y : ℕ) → n ≡ Atomic x y → ⊥) → nests n ≡ false
 plain_node (Look back entry yes' no') f h = absurd (f back entry yes' no' refl)
 plain_node (Atomic entry next) f h = absurd (h entry next refl)
@@ -81,7 +78,7 @@ plain_node Match f h = refl
 -- as the code answers it
 pub plain_visits : {E : Type 0} (r : Result Bool E) (g : Scene) (B : Inner) (n : Node) (i : ℕ)
     (seeds seeds' : List ℕ) (later later' : List Seed) →
-    ((w : Option ℕ) (x y z : ℕ) → n ≡ Look w x y z → ⊥) →
+    ((w : Option Back) (x y z : ℕ) → n ≡ Look w x y z → ⊥) →
     ((x y : ℕ) → n ≡ Atomic x y → ⊥) → IfOk r (λ _. seeds' ≡ seeds ++ moves g n i) →
     IfOk r (λ _. later' ≡ later) → IfOk r (λ _. IsVisited g B n i (waiting seeds later) (waiting seeds' later'))
 plain_visits (Ok x) g B n i seeds seeds' later later' f h e same =
@@ -89,7 +86,7 @@ plain_visits (Ok x) g B n i seeds seeds' later later' f h e same =
     (plain_visit g B n i seeds seeds' later (plain_node n f h) e (two_moves g i n))
 plain_visits (Err x) g B n i seeds seeds' later later' f h e same = tt
 
-pub look_visit : (g : Scene) (B : Inner) (back : Option ℕ) (entry hit miss i : ℕ) (some : Option ℕ)
+pub look_visit : (g : Scene) (B : Inner) (back : Option Back) (entry hit miss i : ℕ) (some : Option ℕ)
     (seeds seeds' : List ℕ) (later : List Seed) → IsEndBehind g B back entry i some →
     seeds' ≡ seeds ++ way_of some hit miss ∷ [] →
     IsVisited g B (Look back entry hit miss) i (waiting seeds later) (waiting seeds' later)
@@ -123,25 +120,7 @@ look_visit g B back entry hit miss i (Some k) seeds seeds' later far e = record 
   few = omega arith;
 }
 
--- Where a lookbehind begins.
-
--- the places before one don't ask the classes
-pub places_same : (v : View) (table : List CharSet) (n p : ℕ) →
-    places_back (bare_text v) n p ≡ places_back (text_scene v table) n p
-unfolding places_back
-places_same v table zero p = refl
-places_same v table (suc n) zero = refl
-places_same v table (suc n) (suc p) = ap (λ ps. suc p ∷ ps) (places_same v table n _)
-
--- at most one is so many characters back
-pub begins_by : (n i : ℕ) (g : Scene) (o : Option ℕ) → slice_get (places_back g n i) n ≡ o →
-    drop n (places_back g n i) ≡ (elim o [ None ↦ [] | Some p ↦ p ∷ [] ])
-unfolding places_back
-begins_by zero i g o e = subst (λ x. i ∷ [] ≡ (elim x [ None ↦ [] | Some p ↦ p ∷ [] ])) e refl
-begins_by (suc zero) zero g None e = refl
-begins_by (suc (suc n)) zero g None e = refl
-begins_by (suc n) zero g (Some p) e = cc
-begins_by (suc n) (suc i) g o e = begins_by n _ g o e
+-- Where a lookaround begins.
 
 -- those of a lookahead begin at the place
 from_here : (g : Scene) (B : Inner) (entry i : ℕ) (some : Option ℕ) →
@@ -153,44 +132,6 @@ pub ends_here : {E : Type 0} (r : Result (Option ℕ) E) (g : Scene) (B : Inner)
     IfOk r (IsFurthest B entry i) → IfOk r (IsEndBehind g B None entry i)
 ends_here (Ok some) g B entry i far = from_here g B entry i some far
 ends_here (Err x) g B entry i far = tt
-
-none_before : (g : Scene) (B : Inner) (back entry i : ℕ) →
-    slice_get (places_back g back i) back ≡ None → IsEndBehind g B (Some back) entry i None
-unfolding Among
-none_before g B back entry i e p k h y = subst (Among p) (begins_by back i g None e) h
-
--- the ends of nested paths that begin there
-from_behind : (g : Scene) (B : Inner) (back entry i place : ℕ) (some : Option ℕ) →
-    slice_get (places_back g back i) back ≡ Some place → IsFurthest B entry place some →
-    IsEndBehind g B (Some back) entry i some
-unfolding Among
-from_behind g B back entry i place None e far = λ p k h y.
-    let a = among_one p place (subst (Among p) (begins_by back i g (Some place) e) h) in
-    far k (subst (λ x. B entry x k) a y)
-from_behind g B back entry i place (Some j) e far =
-    (place, subst (Among place) (sym (begins_by back i g (Some place) e)) (inl refl), far.0)
-
-pub none_where : (o : Option ℕ) → ((p : ℕ) → o ≡ Some p → ⊥) → o ≡ None
-none_where None h = refl
-none_where (Some p) h = absurd (h p refl)
-
--- as the code has it
-pub ends_none : (v : View) (table : List CharSet) (B : Inner) (back entry i : ℕ) (o : Option ℕ) →
-    o ≡ slice_get (places_back (bare_text v) back i) back → o ≡ None →
-    IsEndBehind (text_scene v table) B (Some back) entry i None
-ends_none v table B back entry i o e n =
-    none_before (text_scene v table) B back entry i
-    (ap (λ ps. slice_get ps back) (sym (places_same v table back i)) ∙ sym e ∙ n)
-
-pub ends_from : {E : Type 0} (r : Result (Option ℕ) E) (v : View) (table : List CharSet)
-    (B : Inner) (back entry i place : ℕ) (o : Option ℕ) →
-    o ≡ slice_get (places_back (bare_text v) back i) back → o ≡ Some place →
-    IfOk r (IsFurthest B entry place) →
-    IfOk r (IsEndBehind (text_scene v table) B (Some back) entry i)
-ends_from (Ok some) v table B back entry i place o e n far =
-    from_behind (text_scene v table) B back entry i place some
-    (ap (λ ps. slice_get ps back) (sym (places_same v table back i)) ∙ sym e ∙ n) far
-ends_from (Err x) v table B back entry i place o e n far = tt
 
 same_end : (B : Inner) (entry i j k : ℕ) → Furthest B entry i j → Furthest B entry i k → j ≡ k
 same_end B entry i j k x y =

@@ -3,6 +3,7 @@ use Rattle.std.specs.Prelude.{ℕ, ◌≤◌, List, Option, length}
 use Rattle.match_items.specs.Scene.{Scene}
 use Rattle.match_items.specs.Subjects.{IsText, IsTextPlace}
 use Rattle.match_items.specs.Views.{text_scene}
+use Rattle.dfa_paths.specs.pat_lengths.declared.backs.Back.{Back}
 use Rattle.dfa_paths.specs.Graph.{Inner, Deep, IsGraph}
 use Rattle.dfa_paths.specs.Meets.{Meeting, DeepMeets, Asks, Telling, SomeTells}
 use Rattle.dfa_paths.specs.declared.graph.Node.{Node}
@@ -21,7 +22,7 @@ abbrev pub MeetsOf : Search → ℕ → Meeting
 MeetsOf s depth = DeepMeets (scene_of s) s.nodes.now s.counts depth
 
 -- what a lookaround asks meets the end
-abbrev pub AsksOf : Search → ℕ → Option ℕ → ℕ → ℕ → ℕ → Type 0
+abbrev pub AsksOf : Search → ℕ → Option Back → ℕ → ℕ → ℕ → Type 0
 AsksOf s depth back entry miss i =
     Asks (scene_of s) s.nodes.now s.counts (PathsOf s depth) (MeetsOf s depth) back entry miss i
 

@@ -4,6 +4,7 @@
 mod lists;
 mod matching;
 mod reaching;
+mod tries;
 
 pub use dfa_graph::{Graph, GraphError};
 pub use dfa_paths::{Node, fragments_mean, paths_end};

@@ -12,12 +12,14 @@ ghost use Rattle.dfa_paths.specs.Fragment.{Rising};
 ghost use Rattle.dfa_lists.specs.Searches.{scene_of, PathsOf, MeetsOf, AsksOf, TellsOf, SomeTellsOf, IsClosedOf};
 ghost use Rattle.dfa_lists.specs.Searches.{IsTakenOf, IsSearch, IsPlaceOf};
 ghost use Rattle.dfa_lists.specs.Lists.{IsVisited, closure, progress, waiting, way_of, gone_here, gone_later, kept};
+ghost use Rattle.dfa_lists.specs.Tries.{IsTryEnd};
 ghost use Rattle.dfa_lists.specs.Lists.{waiting_at, elsewhere, landed, stops_from, branch_in};
 
 use crate::reaching::{break_reaches, item_reaches, looks_back, tell};
+use crate::tries::{first_try, has_end, later_try};
 use char_sets::ClassTable;
-use dfa_paths::Node;
-use match_items::{Taken, View, anchor, break_step, places_stand, step, text_back};
+use dfa_paths::{Back, Node};
+use match_items::{Taken, View, anchor, break_step, places_stand, step};
 use pat_tree::{ListOf, Memory, Steps};
 use std::alloc::Global;
 use std::mem::swap;
@@ -84,12 +86,69 @@ fn furthest<L: Ledger>(
     }
 }
 
-/// An end of nested paths that begin so many characters before a place, if they have one.
+/// Whether nested paths from a state and a place end at another place.
+#[cycle(ends)]
+fn ends_at<L: Ledger>(
+    search: &Search<'_>,
+    depth: u32,
+    entry: u32,
+    from: usize,
+    at: usize,
+    told: &mut bool,
+    pool: &mut Lists,
+    steps: &mut Steps<L>,
+) -> Result<Option<usize>, Memory>
+    requires search { IsSearch search.now }
+    requires place { IsPlaceOf search.now from }
+    requires entry { entry < length search.now.nodes.now }
+    ensures end { IfOk result (IsTryEnd (PathsOf search.now depth) entry from false at) }
+    ensures told { IfOk result (λ _. IsTold (MeetsOf search.now depth entry from)
+        told.old told.new) }
+{
+    if depth == 0 {
+        return Ok(None);
+    }
+    let found = ends_of(search, depth - 1, entry, from, pool, steps)?;
+    tell(told, found.hit_end);
+    if has_end(&found.ends, at) {
+        return Ok(Some(at));
+    }
+    Ok(None)
+}
+
+/// An end of a try of a branch of a lookbehind: each counts, or only the one at the lookbehind's place.
+#[cycle(ends)]
+fn end_of_try<L: Ledger>(
+    search: &Search<'_>,
+    depth: u32,
+    entry: u32,
+    from: usize,
+    each: bool,
+    at: usize,
+    told: &mut bool,
+    pool: &mut Lists,
+    steps: &mut Steps<L>,
+) -> Result<Option<usize>, Memory>
+    requires search { IsSearch search.now }
+    requires place { IsPlaceOf search.now from }
+    requires entry { entry < length search.now.nodes.now }
+    ensures end { IfOk result (IsTryEnd (PathsOf search.now depth) entry from each at) }
+    ensures told { IfOk result (λ _. IsTold (MeetsOf search.now depth entry from)
+        told.old told.new) }
+{
+    if each {
+        return furthest(search, depth, entry, from, told, pool, steps);
+    }
+    ends_at(search, depth, entry, from, at, told, pool, steps)
+}
+
+/// An end of nested paths that begin so many characters before a place, if they have one that counts. All tries are
+/// made, since each may reach the subject's end.
 #[cycle(ends)]
 fn end_behind<L: Ledger>(
     search: &Search<'_>,
     depth: u32,
-    back: u32,
+    back: Back,
     entry: u32,
     at: usize,
     told: &mut bool,
@@ -104,16 +163,31 @@ fn end_behind<L: Ledger>(
     ensures told { IfOk result (λ _. IsTold (MeetsBehind (scene_of search.now)
         (MeetsOf search.now depth) back entry at) told.old told.new) }
 {
-    let Some(place) = text_back(search.view, at, back) else {
-        return Ok(None);
-    };
-    furthest(search, depth, entry, place, told, pool, steps)
+    let each = back.least == back.most;
+    let mut some = None;
+    let mut next = first_try(search.view, back, at);
+    'tries: while let Some(tried) = next {
+        let end = end_of_try(
+            search,
+            depth,
+            entry,
+            tried.place,
+            each,
+            at,
+            told,
+            pool,
+            steps,
+        )?;
+        some = some.or(end);
+        next = later_try(search.view, tried);
+    }
+    Ok(some)
 }
 
 /// A branch of a lookbehind.
 #[derive(Clone, Copy, Debug, PartialEq, Eq)]
 struct Branch {
-    back: u32,
+    back: Back,
     entry: u32,
     miss: u32,
 }
@@ -178,7 +252,7 @@ fn probe<L: Ledger>(
 fn ask<L: Ledger>(
     search: &Search<'_>,
     depth: u32,
-    back: Option<u32>,
+    back: Option<Back>,
     entry: u32,
     miss: u32,
     at: usize,

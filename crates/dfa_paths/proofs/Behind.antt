@@ -1,11 +1,11 @@
--- The branches of lookbehinds have one length each, whatever stands around them.
+-- The branches of lookbehinds have the same lengths whatever stands around them.
 use Rattle.std.proofs.Common.{◌≡◌, ◌∙◌, ℕ, zero, suc, ◌<◌, ◌≤◌, Bool, true, false, List, [], ◌∷◌, ◌++◌, map}
 use Rattle.std.proofs.Common.{flat_map, All, Option, Some, None, get_or, refl, sym, ap, subst, arith, length}
-use Rattle.std.specs.Prelude.{◌||◌, slice_get, slice_index_or}
+use Rattle.std.specs.Prelude.{◌||◌, slice_get}
 use Rattle.std.specs.List.{list_any}
 use Rattle.std.specs.Option.{option_or}
 use Rattle.std.proofs.lemmas.Bool.{false≢true}
-use Rattle.std.proofs.lemmas.List.{get_or_default, get_or-map}
+use Rattle.std.proofs.lemmas.List.{get_or_default}
 use Rattle.std.proofs.lemmas.List.Elements.{All-nil, All-cons, All-head, All-tail, All-append}
 use Rattle.pat_tree.specs.declared.nodes.Node as parts
 use Rattle.pat_tree.specs.declared.nodes.Node.TheVariants as part
@@ -24,12 +24,12 @@ use Rattle.pat_lengths.specs.declared.backs.Back.{Back}
 use Rattle.pat_lengths.specs.declared.backs.LengthFault.{LengthFault}
 use Rattle.pat_lengths.specs.Nodes.{all_nodes, has_lookbehind, nodes, nodes_in, nodes_of_test, nodes_of_other}
 use Rattle.pat_lengths.specs.Nodes.{is_accept, captures}
-use Rattle.pat_lengths.specs.Lengths.{SomeLengths, only, in_turn, either, in_turns, lengths}
+use Rattle.pat_lengths.specs.Lengths.{SomeLengths, in_turn, either, in_turns, lengths}
 use Rattle.pat_lengths.specs.Lengths.{lengths_in_turn, lengths_of_one, lengths_of_other, of_test, behind, any_length}
 use Rattle.pat_lengths.specs.Lengths.{branch_lengths, branch_fault, by_calls, can_be_empty}
 use Rattle.pat_lengths.specs.Backs.{AreBacks, behind_branches, fault_from, lengths_at, fault_among, fault_of_node}
-use Rattle.pat_lengths.specs.Backs.{mosts, no_back, fault_in, first_fault}
-use Rattle.pat_lengths.proofs.BackLemmas.{some_none, one_length}
+use Rattle.pat_lengths.specs.Backs.{back_at, lengths_back, fault_in, first_fault}
+use Rattle.pat_lengths.proofs.BackLemmas.{some_none, limited}
 use Rattle.pat_lengths.proofs.OrderLemmas.{node_first, nodes_at}
 use Rattle.dfa_ends.specs.pat_check.Support.{node_support, or_later, support_of_all, dfa_support}
 use Rattle.dfa_ends.specs.pat_check.declared.support.DfaSupport.{DfaSupport}
@@ -255,22 +255,34 @@ without_accept u w t a =
       | false ↦ lengths u w (behind u w (suc (captures w))) t
     ] in z)) (no_accept t a)
 
-has_back : (u : Bool) (w t : Nested) (n : ℕ) → AllServed (all_nodes t) →
-    branch_lengths u w t ≡ only n → HasBack t n
+has_back : (u : Bool) (w t : Nested) (n : Back) → AllServed (all_nodes t) →
+    branch_lengths u w t ≡ lengths_back n → HasBack t n
 has_back u w t n a e = λ u' w'.
     without_accept u' w' t a
     ∙ same u' u w' w (behind u' w' (suc (captures w'))) (behind u w (suc (captures w))) t a
     ∙ sym (without_accept u w t a) ∙ e
 
+abbrev least_of : SomeLengths → ℕ
+least_of None = 0
+least_of (Some x) = x.least
+
 abbrev most_of : SomeLengths → ℕ
 most_of None = 0
 most_of (Some x) = elim x.most [ None ↦ 0 | Some most ↦ most ]
+
+same_lengths : (a b : Back) → lengths_back a ≡ lengths_back b → a ≡ b
+same_lengths a b e =
+    let least : a.least ≡ b.least = ap least_of e in
+    let most : a.most ≡ b.most = ap most_of e in
+    let one : Back = record { least = b.least; most = a.most } in
+    let first : a ≡ one = ap (λ n. record { least = n; most = a.most }) least in
+    first ∙ ap (λ n. record { least = b.least; most = n }) most
 
 -- What is known of the parts of a tree.
 
 -- a length that isn't refused, whatever the pattern around it
 abbrev pub HasKnown : Nested → Type 0
-HasKnown t = (b : ℕ) × HasBack t b × (branch_fault (only b) ≡ None)
+HasKnown t = (b : Back) × HasBack t b × (branch_fault (lengths_back b) ≡ None)
 
 abbrev pub HaveKnown : Row → Type 0
 HaveKnown tree.none = Unit {0}
@@ -289,17 +301,15 @@ is_behind (tree.look false positive once ts) = true
 is_behind _ = false
 
 -- a list tells these lengths
-abbrev pub AreTold : List Placed → ℕ → List ℕ → Type 0
+abbrev pub AreTold : List Placed → ℕ → List Back → Type 0
 AreTold ps root backs =
-    (k b : ℕ) → k ≤ root → HasBack (tree_at (trees ps) k) b → branch_fault (only b) ≡ None →
-    slice_index_or backs k 0 ≡ b
+    (k : ℕ) (b : Back) → k ≤ root → HasBack (tree_at (trees ps) k) b → branch_fault (lengths_back b) ≡ None →
+    back_at backs k ≡ b
 
-pub are_told : (t : TreeParts) (backs : List Back) → AreBacks t backs → AreTold t.nodes t.root (mosts backs)
+pub are_told : (t : TreeParts) (backs : List Back) → AreBacks t backs → AreTold t.nodes t.root backs
 are_told t backs h k b l is fine =
     let e = is t.options.match_unset_backref (tree_of t) in
-    let inside : k < length backs = omega (arith, l, h.count) in
-    get_or-map (λ (b : Back). b.most) backs k no_back 0 inside
-    ∙ ap most_of (sym (h.each k l (ap branch_fault e ∙ fine)) ∙ e)
+    same_lengths _ _ (sym (h.each k l (ap branch_fault e ∙ fine)) ∙ e)
 
 -- of a branch of a lookbehind
 known_at : (ts : List Nested) (ks : List ℕ) (i k : ℕ) → HaveKnown (row (map (tree_at ts) ks)) →
@@ -333,9 +343,10 @@ module _ (t : TreeParts) (rules : TreeRules t) where
   known_of : (k : ℕ) → AllServed (all_nodes (tree_at ts k)) →
       branch_fault (lengths_at t k) ≡ None → HasKnown (tree_at ts k)
   known_of k a e =
-      let l = one_length (lengths_at t k) e in (
+      let u = t.options.match_unset_backref in
+      let l = limited (lengths_at t k) e in (
         l.0,
-        has_back t.options.match_unset_backref (tree_of t) (tree_at ts k) l.0 a l.1,
+        has_back u (tree_of t) (tree_at ts k) l.0 a l.1,
         sym (ap branch_fault l.1) ∙ e,
       )
 

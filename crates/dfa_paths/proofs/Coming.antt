@@ -1,6 +1,6 @@
 -- What a path that begins in a fragment comes to.
 use Rattle.std.proofs.Common.{◌≡◌, ◌∙◌, ℕ, zero, suc, ◌+◌, ◌-◌, ◌<◌, ◌≤◌, ◌⊎◌, true, false, List, Option, Some, None}
-use Rattle.std.proofs.Common.{refl, sym, ap, subst, inl, inr, arith}
+use Rattle.std.proofs.Common.{Bool, refl, sym, ap, subst, inl, inr, arith}
 use Rattle.std.proofs.lemmas.Bool.{false≢true}
 use Rattle.std.specs.Prelude.{◌==◌, slice_get}
 use Rattle.pat_tree.specs.declared.nodes.Item.{Item}
@@ -9,13 +9,14 @@ use Rattle.pat_tree.specs.Nested as tree
 use Rattle.pat_tree.specs.Nested.{Nested, Row, Test}
 use Rattle.match_items.specs.Scene.{Scene}
 use Rattle.match_items.specs.Items.{after_item, after_break, holds}
+use Rattle.pat_lengths.specs.declared.backs.Back.{Back}
 use Rattle.dfa_ends.specs.ordered_search.Setting.{Setting, branch_lengths}
 use Rattle.dfa_ends.specs.Ends.{spot, Spot, Way, Among, HasOne, HasNone, Times, Within, Counted, begun, TryEnds}
 use Rattle.dfa_ends.specs.Ends.{AnyEndsBehind, seen, ItemEnds, BreakEnds, AnchorEnds, Ends, AnyEnds, IsSo, IsNot}
 use Rattle.dfa_paths.specs.declared.graph.Node.{Node}
 use Rattle.dfa_paths.specs.declared.graph.Node.TheVariants.{One, Break, Anchor, Split, Goto, Look, Atomic, Dead, Match}
-use Rattle.dfa_paths.specs.Graph.{nests, moves, lands, target, Inner, Begins, Accepts, matched, moved, landed, ended}
-use Rattle.dfa_paths.specs.Graph.{missed, went}
+use Rattle.dfa_paths.specs.Graph.{nests, moves, lands, target, Inner, Begins, CountsAt, Tried, Accepts, matched, moved}
+use Rattle.dfa_paths.specs.Graph.{landed, ended, missed, went}
 use Rattle.dfa_paths.specs.Fragment.{Part, IsAt, IsNode, Copies, Options, Loop, Turns, Placed, AnyPlaced, TestPlaced}
 use Rattle.dfa_paths.specs.Fragment.{HasBack, BehindPlaced}
 use Rattle.dfa_paths.proofs.Places.{among_one}
@@ -44,26 +45,29 @@ anchor_match kind a e = cc
 dead_match : ◌≡◌ {A = Node} Dead Match → ⊥
 dead_match e = cc
 
-pub look_match : (z : Option ℕ) (a b c : ℕ) → ◌≡◌ {A = Node} (Look z a b c) Match → ⊥
+pub look_match : (z : Option Back) (a b c : ℕ) → ◌≡◌ {A = Node} (Look z a b c) Match → ⊥
 look_match z a b c e = cc
 
 pub atomic_match : (a b : ℕ) → ◌≡◌ {A = Node} (Atomic a b) Match → ⊥
 atomic_match a b e = cc
 
-look_atomic : (z : Option ℕ) (a b c d e : ℕ) → ◌≡◌ {A = Node} (Look z a b c) (Atomic d e) → ⊥
+look_atomic : (z : Option Back) (a b c d e : ℕ) → ◌≡◌ {A = Node} (Look z a b c) (Atomic d e) → ⊥
 look_atomic z a b c d e h = cc
 
-same_back : (z : Option ℕ) (a b c : ℕ) (y : Option ℕ) (p q r : ℕ) → ◌≡◌ {A = Node} (Look z a b c) (Look y p q r) → z ≡ y
+same_back : (z : Option Back) (a b c : ℕ) (y : Option Back) (p q r : ℕ) → ◌≡◌ {A = Node} (Look z a b c) (Look y p q r)
+    → z ≡ y
 same_back z a b c y p q r e = cc
 
-same_entry : (z : Option ℕ) (a b c : ℕ) (y : Option ℕ) (p q r : ℕ) → ◌≡◌ {A = Node} (Look z a b c) (Look y p q r)
+same_entry : (z : Option Back) (a b c : ℕ) (y : Option Back) (p q r : ℕ) → ◌≡◌ {A = Node} (Look z a b c) (Look y p q r)
     → a ≡ p
 same_entry z a b c y p q r e = cc
 
-same_hit : (z : Option ℕ) (a b c : ℕ) (y : Option ℕ) (p q r : ℕ) → ◌≡◌ {A = Node} (Look z a b c) (Look y p q r) → b ≡ q
+same_hit : (z : Option Back) (a b c : ℕ) (y : Option Back) (p q r : ℕ) → ◌≡◌ {A = Node} (Look z a b c) (Look y p q r)
+    → b ≡ q
 same_hit z a b c y p q r e = cc
 
-same_miss : (z : Option ℕ) (a b c : ℕ) (y : Option ℕ) (p q r : ℕ) → ◌≡◌ {A = Node} (Look z a b c) (Look y p q r) → c ≡ r
+same_miss : (z : Option Back) (a b c : ℕ) (y : Option Back) (p q r : ℕ) → ◌≡◌ {A = Node} (Look z a b c) (Look y p q r)
+    → c ≡ r
 same_miss z a b c y p q r e = cc
 
 same_inside : (a b p q : ℕ) → ◌≡◌ {A = Node} (Atomic a b) (Atomic p q) → a ≡ p
@@ -78,9 +82,6 @@ here_begins g i p h = h
 
 pub begins_here : (g : Scene) (i : ℕ) → Begins g None i i
 begins_here g i = refl
-
-same_count : (n : ℕ) → (n == n) ≡ true
-same_count n = grind arith
 
 -- nested paths from a state end as this way does
 pub record IsInner (B : Inner) (w : Way) (entry : ℕ) : Type 0 where
@@ -144,10 +145,11 @@ module _ (g : Setting) (nodes : List Node) (B : Inner) (end : ℕ) where
       absurd (nests_not q n (Atomic entry next) flat e f refl)
 
   -- the first step at a lookaround
-  at_look : (m q i : ℕ) (back : Option ℕ) (entry hit miss : ℕ) → slice_get nodes q ≡ Some (Look back entry hit miss) →
+  at_look : (m q i : ℕ) (back : Option Back) (entry hit miss : ℕ) →
+      slice_get nodes q ≡ Some (Look back entry hit miss) →
       (t : From q i) → size q i t < suc m →
-      (((p : ℕ) × (k : ℕ) × Begins g.scene back i p × B entry p k) × Short m hit i)
-      ⊎ (((p k : ℕ) → Begins g.scene back i p → B entry p k → ⊥) × Short m miss i)
+      (((p : ℕ) × (k : ℕ) × Begins g.scene back i p × Tried B back i entry p k) × Short m hit i)
+      ⊎ (((p k : ℕ) → Begins g.scene back i p → Tried B back i entry p k → ⊥) × Short m miss i)
   unfolding size Among
   at_look m _ _ back entry hit miss e (matched q i f same) l =
       absurd (look_match back entry hit miss
@@ -163,7 +165,12 @@ module _ (g : Setting) (nodes : List Node) (B : Inner) (end : ℕ) where
       let r : a ≡ entry = same_entry z a b c back entry hit miss s in
       let u : z ≡ back = same_back z a b c back entry hit miss s in
       inl (
-        (p, k, subst (λ v. Begins g.scene v i p) u x, subst (λ v. B v p k) r y),
+        (
+          p,
+          k,
+          subst (λ v. Begins g.scene v i p) u x,
+          subst (λ v. Tried B v i entry p k) u (subst (λ v. Tried B z i v p k) r y),
+        ),
         move_short m b hit i (same_hit z a b c back entry hit miss s) (t, omega (arith, l)),
       )
   at_look m _ _ back entry hit miss e (missed q i z a b c f none t) l =
@@ -171,8 +178,8 @@ module _ (g : Setting) (nodes : List Node) (B : Inner) (end : ℕ) where
       let r : a ≡ entry = same_entry z a b c back entry hit miss s in
       let u : z ≡ back = same_back z a b c back entry hit miss s in
       inr (
-        subst (λ v. (p k : ℕ) → Begins g.scene v i p → B entry p k → ⊥) u
-            (subst (λ v. (p k : ℕ) → Begins g.scene z i p → B v p k → ⊥) r none),
+        subst (λ v. (p k : ℕ) → Begins g.scene v i p → Tried B v i entry p k → ⊥) u
+            (subst (λ v. (p k : ℕ) → Begins g.scene z i p → Tried B z i v p k → ⊥) r none),
         move_short m c miss i (same_miss z a b c back entry hit miss s) (t, omega (arith, l)),
       )
   at_look m _ _ back entry hit miss e (went q i a next j f y far t) l =
@@ -405,22 +412,32 @@ module _ (g : Setting) (nodes : List Node) (B : Inner) (end : ℕ) where
   asked_here w entry hit miss inner (suc n) e x p s =
       asked_longer (w x) n hit miss x.place (ask_comes w entry hit miss inner n e x p s)
 
-  pub try_so : (t : Nested) (back : ℕ) → HasBack t back → (p : ℕ) (x y : Spot) →
-      Begins g.scene (Some back) x.place p → Ends g t (begun p x) y →
-      TryEnds g (branch_lengths g t) (Ends g t) x y
-  try_so t back known p x y b h =
-      subst (λ l. TryEnds g l (Ends g t) x y) (sym (known g.options.match_unset_backref g.whole))
-      (p, b, h, subst (λ c. Counted c x y) (sym (same_count back)) tt)
+  pub counted_so : (b : Bool) (x y : Spot) → CountsAt b x.place y.place → Counted b x y
+  counted_so true x y c = c
+  counted_so false x y c = c
 
-  pub try_is : (t : Nested) (back : ℕ) → HasBack t back → (x y : Spot) →
+  pub counted_is : (b : Bool) (x y : Spot) → Counted b x y → CountsAt b x.place y.place
+  counted_is true x y c = c
+  counted_is false x y c = c
+
+  pub try_so : (t : Nested) (back : Back) → HasBack t back → (p : ℕ) (x y : Spot) →
+      Begins g.scene (Some back) x.place p → Ends g t (begun p x) y →
+      CountsAt (back.least == back.most) x.place y.place →
+      TryEnds g (branch_lengths g t) (Ends g t) x y
+  try_so t back known p x y b h c =
+      subst (λ l. TryEnds g l (Ends g t) x y) (sym (known g.options.match_unset_backref g.whole))
+      (p, b, h, counted_so (back.least == back.most) x y c)
+
+  pub try_is : (t : Nested) (back : Back) → HasBack t back → (x y : Spot) →
       TryEnds g (branch_lengths g t) (Ends g t) x y →
       (p : ℕ) × Begins g.scene (Some back) x.place p × Ends g t (begun p x) y
+      × CountsAt (back.least == back.most) x.place y.place
   try_is t back known x y h =
       let k = subst (λ l. TryEnds g l (Ends g t) x y)
       (known g.options.match_unset_backref g.whole) h in
-      (k.0, k.1, k.2)
+      (k.0, k.1, k.2, counted_is (back.least == back.most) x y k.3)
 
-  pub more_comes : (t : Nested) (ts : Row) (back entry hit m miss : ℕ) → HasBack t back →
+  pub more_comes : (t : Nested) (ts : Row) (back : Back) (entry hit m miss : ℕ) → HasBack t back →
       IsInner B (Ends g t) entry → (n e : ℕ) (x : Spot) → IsNode nodes (Look (Some back) entry hit m) e →
       ((k : ℕ) → Short k m x.place → Asked (AnyEndsBehind g ts x) k hit miss x.place) →
       Short n e x.place → Asked (AnyEndsBehind g (tree.more t ts) x) n hit miss x.place
@@ -430,8 +447,8 @@ module _ (g : Setting) (nodes : List Node) (B : Inner) (end : ℕ) where
   more_comes t ts back entry hit m miss known inner (suc n) e x p rest s =
       elim (at_look n e x.place (Some back) entry hit m p s.0 s.1) [
         | inl a ↦
-            let r = inner.ends_so (begun a.0.0 x) a.0.1 a.0.3 in
-            let y = try_so t back known a.0.0 x (spot a.0.1 r.0) a.0.2 r.1 in
+            let r = inner.ends_so (begun a.0.0 x) a.0.1 a.0.3.0 in
+            let y = try_so t back known a.0.0 x (spot a.0.1 r.0) a.0.2 r.1 a.0.3.1 in
             inl ((spot a.0.1 r.0, inl y), longer n (suc n) hit x.place (omega arith) a.1)
         | inr b ↦ elim (rest n b.1) [
           | inl c ↦ inl (
@@ -442,7 +459,7 @@ module _ (g : Setting) (nodes : List Node) (B : Inner) (end : ℕ) where
             λ y h. (elim h [
               | inl u ↦
                   let v = try_is t back known x y u in
-                  b.0 v.0 y.place v.1 (inner.so_ends (begun v.0 x) y v.2)
+                  b.0 v.0 y.place v.1 (inner.so_ends (begun v.0 x) y v.2, v.3)
               | inr u ↦ c.0 y u
             ]),
             longer n (suc n) miss x.place (omega arith) c.1,

@@ -9,6 +9,7 @@ use Rattle.pat_tree.specs.Nested as tree
 use Rattle.pat_tree.specs.Nested.{Nested, Row, Test, Other}
 use Rattle.pat_lengths.specs.Nodes.{nodes as parts_of, is_lookbehind, all_nodes, nodes_in, nodes_of_test}
 use Rattle.pat_lengths.specs.Nodes.{nodes_of_other}
+use Rattle.pat_lengths.specs.declared.backs.Back.{Back}
 use Rattle.dfa_ends.specs.ordered_search.Setting.{Setting, branch_lengths}
 use Rattle.dfa_ends.specs.Ends.{Spot, spot, Spots, Way, Among, HasOne, HasNone, begun, TryEnds, TryReaches, ItemEnds}
 use Rattle.dfa_ends.specs.Ends.{ItemReaches, Ends, AllEnd, AnyEnds, AnyEndsBehind, IsSo, IsNot, OtherEnds, Reaches}
@@ -17,7 +18,7 @@ use Rattle.dfa_ends.proofs.ListLaw.{onward, onward_item}
 use Rattle.dfa_paths.specs.declared.graph.Node.{Node}
 use Rattle.dfa_paths.specs.declared.graph.Node.TheVariants.{One, Split, Look, Match}
 use Rattle.dfa_paths.specs.Graph as graph
-use Rattle.dfa_paths.specs.Graph.{Inner, Begins, Deep}
+use Rattle.dfa_paths.specs.Graph.{Inner, Begins, Tried, Deep}
 use Rattle.dfa_paths.specs.Meets.{Meeting, MeetsBehind, HasEndBehind, Probes, probed, further, met, DeepMeets}
 use Rattle.dfa_paths.specs.Fragment.{Part, IsNode, IsLast, Placed, AllPlaced, AnyPlaced, BehindPlaced, TestPlaced}
 use Rattle.dfa_paths.specs.Fragment.{OtherPlaced, HasBack}
@@ -146,14 +147,14 @@ module _ (g : Setting) (nodes : List Node) (last : slice_get nodes 1 ≡ Some Ma
 
   -- Lookbehinds: one of them counts wherever it stands.
 
-  begins_so : (t : Nested) (back : ℕ) → HasBack t back → (p : ℕ) (x : Spot) →
+  begins_so : (t : Nested) (back : Back) → HasBack t back → (p : ℕ) (x : Spot) →
       Begins g.scene (Some back) x.place p → Reaches g t (begun p x) →
       TryReaches g (branch_lengths g t) (Reaches g t) x
   begins_so t back known p x b r =
       subst (λ l. TryReaches g l (Reaches g t) x)
       (sym (known g.options.match_unset_backref g.whole)) (p, b, r)
 
-  begins_is : (t : Nested) (back : ℕ) → HasBack t back → (x : Spot) →
+  begins_is : (t : Nested) (back : Back) → HasBack t back → (x : Spot) →
       TryReaches g (branch_lengths g t) (Reaches g t) x →
       (p : ℕ) × Begins g.scene (Some back) x.place p × Reaches g t (begun p x)
   begins_is t back known x r =
@@ -174,7 +175,7 @@ module _ (g : Setting) (nodes : List Node) (last : slice_get nodes 1 ≡ Some Ma
       is s
 
   branch_so : (d : ℕ) (t : Nested) → Come d (Placed nodes t d) (Reaches g t) (Ends g t) →
-      counts ≡ true → (back entry : ℕ) → HasBack t back → Placed nodes t d entry 1 →
+      counts ≡ true → (back : Back) (entry : ℕ) → HasBack t back → Placed nodes t d entry 1 →
       (x : Spot) → Good g counts x → MeetsBehind g.scene (M (suc d)) back entry x.place →
       TryReaches g (branch_lengths g t) (Reaches g t) x
   branch_so d t come sure back entry known p x good y =
@@ -345,8 +346,8 @@ module _ (g : Setting) (nodes : List Node) (last : slice_get nodes 1 ≡ Some Ma
           | inr r ↦ elim r [
             | inl a ↦
                 let i = inner d t p.1 p.5 in
-                let u = i.ends_so (begun a.0.0 x) a.0.1 a.0.3 in
-                let y = try_so g nodes (B (suc d)) 0 t p.0 p.3 a.0.0 x (spot a.0.1 u.0) a.0.2 u.1 in
+                let u = i.ends_so (begun a.0.0 x) a.0.1 a.0.3.0 in
+                let y = try_so g nodes (B (suc d)) 0 t p.0 p.3 a.0.0 x (spot a.0.1 u.0) a.0.2 u.1 a.0.3.1 in
                 inr (inl (
                   (spot a.0.1 u.0, inl y),
                   meeting.longer g nodes counts (B (suc d)) (M (suc d)) n (suc n) hit x.place
@@ -365,7 +366,7 @@ module _ (g : Setting) (nodes : List Node) (last : slice_get nodes 1 ≡ Some Ma
                     | inl u ↦
                         let i = inner d t p.1 p.5 in
                         let v = try_is g nodes (B (suc d)) 0 t p.0 p.3 x y u in
-                        b.0 v.0 y.place v.1 (i.so_ends (begun v.0 x) y v.2)
+                        b.0 v.0 y.place v.1 (i.so_ends (begun v.0 x) y v.2, v.3)
                     | inr u ↦ c.0 y u
                   ]),
                   meeting.longer g nodes counts (B (suc d)) (M (suc d)) n (suc n) miss x.place
@@ -446,21 +447,21 @@ module _ (g : Setting) (nodes : List Node) (last : slice_get nodes 1 ≡ Some Ma
   last_end (tree.more t ts) l x y u = l
 
   -- a branch that has no end
-  no_try : (d : ℕ) (t : Nested) (back entry : ℕ) → HasBack t back →
+  no_try : (d : ℕ) (t : Nested) (back : Back) (entry : ℕ) → HasBack t back →
       IsInner (B (suc d)) (Ends g t) entry → (x : Spot) →
       HasNone (TryEnds g (branch_lengths g t) (Ends g t) x) → (q k : ℕ) →
-      Begins g.scene (Some back) x.place q → B (suc d) entry q k → ⊥
+      Begins g.scene (Some back) x.place q → Tried (B (suc d)) (Some back) x.place entry q k → ⊥
   no_try d t back entry known i x none q k c u =
-      let r = i.ends_so (begun q x) k u in
-      none (spot k r.0) (try_so g nodes (B (suc d)) 0 t back known q x (spot k r.0) c r.1)
+      let r = i.ends_so (begun q x) k u.0 in
+      none (spot k r.0) (try_so g nodes (B (suc d)) 0 t back known q x (spot k r.0) c r.1 u.1)
 
-  one_try : (d : ℕ) (t : Nested) (back entry : ℕ) → HasBack t back →
+  one_try : (d : ℕ) (t : Nested) (back : Back) (entry : ℕ) → HasBack t back →
       IsInner (B (suc d)) (Ends g t) entry → (x : Spot) →
       HasOne (TryEnds g (branch_lengths g t) (Ends g t) x) →
       HasEndBehind g.scene (B (suc d)) back entry x.place
   one_try d t back entry known i x one =
       let v = try_is g nodes (B (suc d)) 0 t back known x one.0 one.1 in
-      (v.0, one.0.place, v.1, i.so_ends (begun v.0 x) one.0 v.2)
+      (v.0, one.0.place, v.1, (i.so_ends (begun v.0 x) one.0 v.2, v.3))
 
   rows_by : (d : ℕ) (ts : Row) →
       Go d (AnyPlaced nodes ts d) (AnyReaches g ts) (AnyEnds g ts) → (entry : ℕ) →
@@ -470,7 +471,7 @@ module _ (g : Setting) (nodes : List Node) (last : slice_get nodes 1 ≡ Some Ma
       meets_by d (AnyPlaced nodes ts d) (AnyReaches g ts) (AnyEnds g ts) entry go p
 
   branch_by : (d : ℕ) (t : Nested) → Go d (Placed nodes t d) (Reaches g t) (Ends g t) →
-      counts ≡ true → (back entry : ℕ) → HasBack t back → Placed nodes t d entry 1 →
+      counts ≡ true → (back : Back) (entry : ℕ) → HasBack t back → Placed nodes t d entry 1 →
       (x : Spot) → Good g counts x → TryReaches g (branch_lengths g t) (Reaches g t) x →
       MeetsBehind g.scene (M (suc d)) back entry x.place
   branch_by d t go sure back entry known p x good r =

@@ -7,6 +7,7 @@ use Rattle.pat_tree.specs.declared.nodes.AnchorKind.{AnchorKind}
 use Rattle.pat_tree.specs.Nested as tree
 use Rattle.pat_tree.specs.Nested.{Nested, Row, Test}
 use Rattle.match_items.specs.Items.{after_item, after_break, holds}
+use Rattle.pat_lengths.specs.declared.backs.Back.{Back}
 use Rattle.dfa_ends.specs.ordered_search.Setting.{Setting, branch_lengths}
 use Rattle.dfa_ends.specs.EndList.{In, ends_list}
 use Rattle.dfa_ends.proofs.ListLaw.{list_law}
@@ -148,7 +149,7 @@ module _ (g : Setting) (nodes : List Node) (B : Inner) (end : ℕ) where
       let u = tree.look false true true (tree.more t tree.none) in
       decided t x (ends_list g u x) (λ y h. (list_law g u x y).0 h) (λ y h. (list_law g u x y).1 h)
 
-  pub more_hits : (t : Nested) (ts : Row) (back entry hit m : ℕ) → HasBack t back →
+  pub more_hits : (t : Nested) (ts : Row) (back : Back) (entry hit m : ℕ) → HasBack t back →
       IsInner B (Ends g t) entry → (e : ℕ) (x : Spot) → IsNode nodes
       (Look (Some back) entry hit m) e →
       (HasOne (AnyEndsBehind g ts x) → From g nodes B end hit x.place →
@@ -161,15 +162,15 @@ module _ (g : Setting) (nodes : List Node) (B : Inner) (end : ℕ) where
         | inl a ↦
             let v = try_is g nodes B end t back known x a.0 a.1 in
             ended e x.place (Some back) entry hit m v.0 a.0.place p v.1
-            (inner.so_ends (begun v.0 x) a.0 v.2) f
+            (inner.so_ends (begun v.0 x) a.0 v.2, v.3) f
         | inr b ↦ missed e x.place (Some back) entry hit m p
             (λ q k c d. (
-            let r = inner.ends_so (begun q x) k d in
-            b (spot k r.0) (try_so g nodes B end t back known q x (spot k r.0) c r.1)))
+            let r = inner.ends_so (begun q x) k d.0 in
+            b (spot k r.0) (try_so g nodes B end t back known q x (spot k r.0) c r.1 d.1)))
             (rest (elim h.1 [ inl u ↦ absurd (b h.0 u) | inr u ↦ (h.0, u) ]) f)
       ]
 
-  pub more_misses : (t : Nested) (ts : Row) (back entry hit m : ℕ) → HasBack t back →
+  pub more_misses : (t : Nested) (ts : Row) (back : Back) (entry hit m : ℕ) → HasBack t back →
       IsInner B (Ends g t) entry → (e : ℕ) (x : Spot) → IsNode nodes
       (Look (Some back) entry hit m) e →
       HasNone (AnyEndsBehind g (tree.more t ts) x) → From g nodes B end m x.place →
@@ -178,8 +179,8 @@ module _ (g : Setting) (nodes : List Node) (B : Inner) (end : ℕ) where
   more_misses t ts back entry hit m known inner e x p h f =
       missed e x.place (Some back) entry hit m p
       (λ q k c d. (
-      let r = inner.ends_so (begun q x) k d in
-      h (spot k r.0) (inl (try_so g nodes B end t back known q x (spot k r.0) c r.1)))) f
+      let r = inner.ends_so (begun q x) k d.0 in
+      h (spot k r.0) (inl (try_so g nodes B end t back known q x (spot k r.0) c r.1 d.1)))) f
 
   pub atomic_goes : (w : Way) (entry : ℕ) → IsInner B w entry → (e next : ℕ) (x y : Spot) →
       IsNode nodes (Atomic entry next) e → FurthestEnd g nodes B end w x y →

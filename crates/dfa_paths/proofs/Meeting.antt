@@ -6,12 +6,13 @@ use Rattle.std.specs.Prelude.{IsTrue, not, slice_get}
 use Rattle.pat_tree.specs.declared.nodes.Item.{Item}
 use Rattle.pat_tree.specs.declared.nodes.AnchorKind.{AnchorKind}
 use Rattle.match_items.specs.Items.{after_item, after_break, holds}
+use Rattle.pat_lengths.specs.declared.backs.Back.{Back}
 use Rattle.dfa_ends.specs.ordered_search.Setting.{Setting}
 use Rattle.dfa_ends.specs.Ends.{Spot, spot, Spots, Way, Among, HasOne, HasNone, Times, Within, Below, seen, ItemEnds}
 use Rattle.dfa_ends.specs.Ends.{BreakEnds, AnchorEnds, ItemReaches, BreakReaches, AnchorReaches}
 use Rattle.dfa_paths.specs.declared.graph.Node.{Node}
 use Rattle.dfa_paths.specs.declared.graph.Node.TheVariants.{One, Break, Anchor, Split, Goto, Look, Atomic, Dead, Match}
-use Rattle.dfa_paths.specs.Graph.{Inner, Furthest, Begins, Follows, Leaps, lands, target}
+use Rattle.dfa_paths.specs.Graph.{Inner, Furthest, Begins, Tried, Follows, Leaps, lands, target}
 use Rattle.dfa_paths.specs.Meets.{Meeting, Asks, Telling, Meets, met, followed, leapt, took}
 use Rattle.dfa_paths.specs.Fragment.{Part, IsAt, IsNode, Copies, Options, Loop, Turns}
 use Rattle.dfa_paths.proofs.Places.{among_one}
@@ -126,12 +127,12 @@ module _ (g : Setting) (nodes : List Node) (counts : Bool) (B : Inner) (M : Meet
   dead_short (suc n) q i e s = at_dead n q i e s.0 s.1
 
   -- the first step at a lookaround
-  pub at_look : (m q i : ℕ) (back : Option ℕ) (entry hit miss : ℕ) →
+  pub at_look : (m q i : ℕ) (back : Option Back) (entry hit miss : ℕ) →
       slice_get nodes q ≡ Some (Look back entry hit miss) → (t : From q i) →
       size q i t < suc m →
       Asks g.scene nodes counts B M back entry miss i
-      ⊎ (((p : ℕ) × (k : ℕ) × Begins g.scene back i p × B entry p k) × Short m hit i)
-      ⊎ (((p k : ℕ) → Begins g.scene back i p → B entry p k → ⊥) × Short m miss i)
+      ⊎ (((p : ℕ) × (k : ℕ) × Begins g.scene back i p × Tried B back i entry p k) × Short m hit i)
+      ⊎ (((p k : ℕ) → Begins g.scene back i p → Tried B back i entry p k → ⊥) × Short m miss i)
   at_look m q i back entry hit miss e t l =
       elim (at_node m q i (Look back entry hit miss) e t l) [
         | inl y ↦ elim y [ inl t ↦ absurd (false≢true t) | inr z ↦ inl z ]

@@ -2,29 +2,30 @@
 use Rattle.std.proofs.Common.{◌≡◌, ◌∙◌, ℕ, ◌<◌, ◌⊎◌, Bool, List, Option, Some, sym, subst, inl, inr}
 use Rattle.std.specs.Prelude.{slice_get}
 use Rattle.match_items.specs.Scene.{Scene}
+use Rattle.pat_lengths.specs.declared.backs.Back.{Back}
 use Rattle.dfa_paths.specs.declared.graph.Node.{Node}
 use Rattle.dfa_paths.specs.declared.graph.Node.TheVariants.{Goto, Look}
 use Rattle.dfa_paths.specs.Meets.{Meeting, MeetsBehind, Probes, probed, further}
 
-same_miss : (a b c d p q r s : ℕ) →
+same_miss : (a : Back) (b c d : ℕ) (p : Back) (q r s : ℕ) →
     ◌≡◌ {A = Option Node} (Some (Look (Some a) b c d)) (Some (Look (Some p) q r s)) → d ≡ s
 same_miss a b c d p q r s e = cc
 
-same_entry : (a b c d p q r s : ℕ) →
+same_entry : (a : Back) (b c d : ℕ) (p : Back) (q r s : ℕ) →
     ◌≡◌ {A = Option Node} (Some (Look (Some a) b c d)) (Some (Look (Some p) q r s)) → b ≡ q
 same_entry a b c d p q r s e = cc
 
-same_back : (a b c d p q r s : ℕ) →
+same_back : (a : Back) (b c d : ℕ) (p : Back) (q r s : ℕ) →
     ◌≡◌ {A = Option Node} (Some (Look (Some a) b c d)) (Some (Look (Some p) q r s)) → a ≡ p
 same_back a b c d p q r s e = cc
 
-goto_look : (a : ℕ) (b : Option ℕ) (c d e : ℕ) →
+goto_look : (a : ℕ) (b : Option Back) (c d e : ℕ) →
     ◌≡◌ {A = Option Node} (Some (Goto a)) (Some (Look b c d e)) → ⊥
 goto_look a b c d e h = cc
 
 module _ (g : Scene) (nodes : List Node) (counts : Bool) (M : Meeting) (i : ℕ) where
   -- what is left to be tried at a branch
-  pub at_branch : (q back entry hit miss : ℕ) →
+  pub at_branch : (q : ℕ) (back : Back) (entry hit miss : ℕ) →
       slice_get nodes q ≡ Some (Look (Some back) entry hit miss) →
       Probes g nodes counts M i q →
       MeetsBehind g M back entry i ⊎ ((q < miss) × Probes g nodes counts M i miss)
@@ -36,7 +37,7 @@ module _ (g : Scene) (nodes : List Node) (counts : Bool) (M : Meeting) (i : ℕ)
       let s = same_miss b n h m back entry hit miss (sym f ∙ e) in
       inr (subst (λ k. q < k) s l, subst (Probes g nodes counts M i) s y)
 
-  pub no_branch : (q : ℕ) → ((back entry hit miss : ℕ) →
+  pub no_branch : (q : ℕ) → ((back : Back) (entry hit miss : ℕ) →
       slice_get nodes q ≡ Some (Look (Some back) entry hit miss) → ⊥) →
       Probes g nodes counts M i q → ⊥
   no_branch _ none (probed q b n h m f y) = none b n h m f

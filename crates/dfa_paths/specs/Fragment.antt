@@ -7,7 +7,9 @@ use Rattle.pat_tree.specs.Nested as tree
 use Rattle.pat_tree.specs.Nested.{Nested, Row, Test, Other}
 use Rattle.dfa_ends.specs.pat_check.Size.{whole_size}
 use Rattle.pat_lengths.specs.Nodes.{has_lookbehind}
-use Rattle.pat_lengths.specs.Lengths.{only, branch_lengths, can_be_empty}
+use Rattle.pat_lengths.specs.Backs.{lengths_back}
+use Rattle.pat_lengths.specs.Lengths.{branch_lengths, can_be_empty}
+use Rattle.pat_lengths.specs.declared.backs.Back.{Back}
 use Rattle.dfa_ends.specs.ordered_search.Setting.{Setting}
 use Rattle.dfa_ends.specs.Ends.{Spot, spot, Among, Ends, Reaches}
 use Rattle.dfa_paths.specs.declared.graph.Node.{Node}
@@ -25,10 +27,10 @@ Part = ℕ → ℕ → Type 0
 abbrev pub most_nested : ℕ
 most_nested = 512
 
--- a branch of a lookbehind is so long, whatever the pattern around it
-abbrev pub HasBack : Nested → ℕ → Type 0
+-- a branch of a lookbehind has these lengths, whatever the pattern around it
+abbrev pub HasBack : Nested → Back → Type 0
 HasBack t back =
-    (unset_matches : Bool) (whole : Nested) → branch_lengths unset_matches whole t ≡ only back
+    (unset_matches : Bool) (whole : Nested) → branch_lengths unset_matches whole t ≡ lengths_back back
 
 module _ (nodes : List Node) where
   -- nothing stands between
@@ -119,7 +121,7 @@ module _ (nodes : List Node) where
     pub BehindPlaced : Row → ℕ → ℕ → ℕ → ℕ → Type 0
     BehindPlaced tree.none d hit miss e = IsNode (Goto miss) e
     BehindPlaced (tree.more t ts) d hit miss e =
-        (back : ℕ) × (entry : ℕ) × (m : ℕ) × HasBack t back
+        (back : Back) × (entry : ℕ) × (m : ℕ) × HasBack t back
         × IsNode (Look (Some back) entry hit m) e × Placed t d entry 1
         × BehindPlaced ts d hit miss m × (e < m)
 

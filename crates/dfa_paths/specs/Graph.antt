@@ -1,9 +1,10 @@
 -- Paths of a graph of states over a subject.
 use Rattle.std.specs.Prelude.{◌≡◌, ℕ, zero, suc, ◌+◌, ◌≤◌, ◌<◌, ◌⊎◌, Bool, true, false, All, List, [], ◌∷◌, length}
-use Rattle.std.specs.Prelude.{drop, Option, Some, None, slice_get}
+use Rattle.std.specs.Prelude.{drop, Option, Some, None, slice_get, ◌==◌}
 use Rattle.pat_tree.specs.Rules.{class_in}
 use Rattle.match_items.specs.Scene.{Scene}
 use Rattle.match_items.specs.Items.{places_back, after_item, after_break, holds}
+use Rattle.pat_lengths.specs.declared.backs.Back.{Back}
 use Rattle.dfa_ends.specs.Ends.{Among}
 use Rattle.dfa_paths.specs.declared.graph.Node.{Node}
 use Rattle.dfa_paths.specs.declared.graph.Node.TheVariants.{One, Break, Anchor, Split, Goto, Look, Atomic, Dead, Match}
@@ -57,20 +58,30 @@ IsFurthest B entry i None = (k : ℕ) → B entry i k → ⊥
 IsFurthest B entry i (Some j) = Furthest B entry i j
 
 -- where nested paths begin: at a place, or so many characters before it
-abbrev pub Begins : Scene → Option ℕ → ℕ → ℕ → Type 0
+abbrev pub Begins : Scene → Option Back → ℕ → ℕ → Type 0
 Begins g None i p = p ≡ i
-Begins g (Some back) i p = Among p (drop back (places_back g back i))
+Begins g (Some back) i p = Among p (drop back.least (places_back g back.most i))
+
+-- an end counts that stands at a place, or each where all do
+abbrev pub CountsAt : Bool → ℕ → ℕ → Type 0
+CountsAt true i k = Unit {0}
+CountsAt false i k = k ≡ i
+
+-- of the ends of nested paths those that count: where the lengths of a branch differ, those at the place
+abbrev pub Tried : Inner → Option Back → ℕ → Inner
+Tried B None i entry p k = B entry p k
+Tried B (Some back) i entry p k = B entry p k × CountsAt (back.least == back.most) i k
 
 -- an end of nested paths that begin so, where there is one
-abbrev pub IsEndBehind : Scene → Inner → Option ℕ → ℕ → ℕ → Option ℕ → Type 0
-IsEndBehind g B back entry i None = (p k : ℕ) → Begins g back i p → B entry p k → ⊥
-IsEndBehind g B back entry i (Some j) = (p : ℕ) × Begins g back i p × B entry p j
+abbrev pub IsEndBehind : Scene → Inner → Option Back → ℕ → ℕ → Option ℕ → Type 0
+IsEndBehind g B back entry i None = (p k : ℕ) → Begins g back i p → Tried B back i entry p k → ⊥
+IsEndBehind g B back entry i (Some j) = (p : ℕ) × Begins g back i p × Tried B back i entry p j
 
 -- the states that follow at the same place, where nested paths end as B says
 abbrev pub Follows : Scene → Inner → Node → ℕ → ℕ → Type 0
 Follows g B (Look back entry hit miss) i a =
-    (((p : ℕ) × (k : ℕ) × Begins g back i p × B entry p k) × (a ≡ hit))
-    ⊎ (((p k : ℕ) → Begins g back i p → B entry p k → ⊥) × (a ≡ miss))
+    (((p : ℕ) × (k : ℕ) × Begins g back i p × Tried B back i entry p k) × (a ≡ hit))
+    ⊎ (((p k : ℕ) → Begins g back i p → Tried B back i entry p k → ⊥) × (a ≡ miss))
 Follows g B (Atomic entry next) i a = Furthest B entry i i × (a ≡ next)
 Follows g B n i a = Among a (moves g n i)
 
@@ -88,12 +99,12 @@ module _ (g : Scene) (nodes : List Node) where
     landed : (q i j : ℕ) (n : Node) → slice_get nodes q ≡ Some n → lands g n i ≡ Some j →
         Accepts B end (target n) j → Accepts B end q i
     -- a lookaround, by whether its paths have an end
-    ended : (q i : ℕ) (back : Option ℕ) (entry hit miss p k : ℕ) →
-        slice_get nodes q ≡ Some (Look back entry hit miss) → Begins g back i p → B entry p k →
+    ended : (q i : ℕ) (back : Option Back) (entry hit miss p k : ℕ) →
+        slice_get nodes q ≡ Some (Look back entry hit miss) → Begins g back i p → Tried B back i entry p k →
         Accepts B end hit i → Accepts B end q i
-    missed : (q i : ℕ) (back : Option ℕ) (entry hit miss : ℕ) →
+    missed : (q i : ℕ) (back : Option Back) (entry hit miss : ℕ) →
         slice_get nodes q ≡ Some (Look back entry hit miss) →
-        ((p k : ℕ) → Begins g back i p → B entry p k → ⊥) → Accepts B end miss i →
+        ((p k : ℕ) → Begins g back i p → Tried B back i entry p k → ⊥) → Accepts B end miss i →
         Accepts B end q i
     -- an atomic group goes on where its paths have their furthest end
     went : (q i entry next j : ℕ) → slice_get nodes q ≡ Some (Atomic entry next) →

@@ -7,7 +7,8 @@ use Rattle.match_items.specs.Scene.{Scene}
 use Rattle.match_items.specs.Items.{item_reaches, break_reaches, anchor_reaches}
 use Rattle.dfa_paths.specs.declared.graph.Node.{Node}
 use Rattle.dfa_paths.specs.declared.graph.Node.TheVariants.{One, Break, Anchor, Look, Atomic}
-use Rattle.dfa_paths.specs.Graph.{Inner, Begins, Follows, Leaps, Deep, Comes, lands, target}
+use Rattle.pat_lengths.specs.declared.backs.Back.{Back}
+use Rattle.dfa_paths.specs.Graph.{Inner, Begins, Tried, Follows, Leaps, Deep, Comes, lands, target}
 
 -- `\b` and `\B` look at the character before
 abbrev pub looks_back : AnchorKind → Bool
@@ -29,27 +30,28 @@ abbrev pub Meeting : Type 1
 Meeting = ℕ → ℕ → Type 0
 
 -- of those that begin so many characters before a place
-abbrev pub MeetsBehind : Scene → Meeting → ℕ → ℕ → ℕ → Type 0
+abbrev pub MeetsBehind : Scene → Meeting → Back → ℕ → ℕ → Type 0
 MeetsBehind g M back entry i = (p : ℕ) × Begins g (Some back) i p × M entry p
 
--- the paths that begin so have an end
-abbrev pub HasEndBehind : Scene → Inner → ℕ → ℕ → ℕ → Type 0
-HasEndBehind g B back entry i = (p : ℕ) × (k : ℕ) × Begins g (Some back) i p × B entry p k
+-- the paths that begin so have an end that counts
+abbrev pub HasEndBehind : Scene → Inner → Back → ℕ → ℕ → Type 0
+HasEndBehind g B back entry i =
+    (p : ℕ) × (k : ℕ) × Begins g (Some back) i p × Tried B (Some back) i entry p k
 
 module _ (g : Scene) (nodes : List Node) (counts : Bool) where
   -- A branch of a lookbehind meets the end, from the one on whose state this is. The states of the
   -- branches rise.
   pub data Probes (M : Meeting) (i : ℕ) : ℕ → Type 0 where
-    probed : (q back entry hit miss : ℕ) →
+    probed : (q : ℕ) (back : Back) (entry hit miss : ℕ) →
         slice_get nodes q ≡ Some (Look (Some back) entry hit miss) →
         MeetsBehind g M back entry i → Probes M i q
-    further : (q back entry hit miss : ℕ) →
+    further : (q : ℕ) (back : Back) (entry hit miss : ℕ) →
         slice_get nodes q ≡ Some (Look (Some back) entry hit miss) → q < miss →
         Probes M i miss → Probes M i q
 
   -- What a lookaround asks meets the end. Each branch of a lookbehind is tried: also those after one
   -- that has an end.
-  abbrev pub Asks : Inner → Meeting → Option ℕ → ℕ → ℕ → ℕ → Type 0
+  abbrev pub Asks : Inner → Meeting → Option Back → ℕ → ℕ → ℕ → Type 0
   Asks B M None entry miss i = M entry i
   Asks B M (Some back) entry miss i =
       MeetsBehind g M back entry i ⊎ (HasEndBehind g B back entry i × Probes M i miss)

@@ -1,4 +1,5 @@
 //! The states of a graph.
+use pat_lengths::Back;
 use pat_tree::{AnchorKind, Item};
 
 /// A state, and the states that follow it.
@@ -27,10 +28,10 @@ pub enum Node {
         next: u32,
     },
     /// A lookaround: goes on in the first way where nested paths from the entry have an end, else in
-    /// the second. Those of a branch of a lookbehind begin so many characters before the place, and
-    /// the second way is the next branch.
+    /// the second. Those of a branch of a lookbehind begin so many characters before the place, where
+    /// its lengths differ only an end at the place counts, and the second way is the next branch.
     Look {
-        back: Option<u32>,
+        back: Option<Back>,
         entry: u32,
         hit: u32,
         miss: u32,

@@ -7,3 +7,4 @@ mod laws;
 
 pub use graph::Node;
 pub use laws::{fragments_mean, paths_end};
+pub use pat_lengths::Back;

@@ -30,8 +30,8 @@ use Rattle.node_flow.specs.Followers.{rest}
 use Rattle.node_flow.specs.Linked.{IsLinked}
 use Rattle.node_flow.specs.Branches.{branch_child, branch_of}
 use Rattle.node_flow.specs.Order.{StandInTurn, order, rank, past}
-use Rattle.node_flow.proofs.Branching.{branches_are_around}
 use Rattle.node_flow.proofs.InTurn.{children_stand_in_turn, root_in_order}
+use Rattle.node_flow.proofs.Telling.{hang_together}
 use Rattle.node_flow.proofs.TreeLaws.{followers_hang_together}
 use Rattle.pat_lengths.specs.Backs.{first_fault}
 use Rattle.frame_board.proofs.Measured.{measured_whole}
@@ -334,7 +334,7 @@ board_search t table matching subject rules fixed shown searched groups few = re
   last = (followers_hang_together t rules).last;
   chained = (followers_hang_together t rules).chained;
   linked = (followers_hang_together t rules).linked;
-  branches = branches_are_around t rules;
+  branches = hang_together branch_child t rules;
   under = λ q inside other. (children_stand_in_turn t rules q inside other).0;
   in_turn = λ q inside other. (children_stand_in_turn t rules q inside other).1;
   root_under = root_in_order t rules;

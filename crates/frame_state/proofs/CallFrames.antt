@@ -119,7 +119,10 @@ site_is r =
                                   here refl,
                                   (
                                     here refl,
-                                    (here refl, (here refl, (here refl, (here refl, (here refl, (here refl, tt)))))),
+                                    (
+                                      here refl,
+                                      (here refl, (here refl, (here refl, (here refl, (here refl, (here refl, tt)))))),
+                                    ),
                                   ),
                                 ),
                               ),

@@ -8,7 +8,7 @@ use Rattle.frame_store.specs.Captures.{Captures, capture}
 use Rattle.frame_store.specs.Entry.{Kept, Entry, Undo, LaterBranch, GroupOpen, CalledGroup, TurnOpen, TurnOrExit}
 use Rattle.frame_store.specs.Entry.{LaterTurn, FewerItems, MoreItems, AtomicOpen, LookOpen, LookAllOpen, LookTest}
 use Rattle.frame_store.specs.Entry.{DenialOpen, DenialTest, CallOpen, AtomicLeft, MarkPassed, CommitPassed}
-use Rattle.frame_store.specs.Entry.{PrunePassed, SkipPassed, ThenPassed, Other, entry_site}
+use Rattle.frame_store.specs.Entry.{PrunePassed, SkipPassed, ThenPassed, LaterTry, Other, entry_site}
 use Rattle.frame_state.specs.declared.machine.Next.{Next}
 use Rattle.frame_state.specs.declared.machine.Next.TheVariants.{Enter, Branch, End, Back}
 use Rattle.frame_state.specs.declared.machine.Spot.{Spot}
@@ -90,6 +90,7 @@ entry_kept (CommitPassed at kept height) = kept
 entry_kept (PrunePassed at kept height) = kept
 entry_kept (SkipPassed at kept height next) = kept
 entry_kept (ThenPassed at kept) = kept
+entry_kept (LaterTry at kept left) = kept
 entry_kept (Other at) = nothing_kept
 
 -- a name that was passed, (name, place); no other record tells of names

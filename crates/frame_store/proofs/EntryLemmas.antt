@@ -10,12 +10,12 @@ use Rattle.frame_store.specs.declared.kinds.TheConstants.{KIND_ATOMIC_OPEN, KIND
 use Rattle.frame_store.specs.declared.kinds.TheConstants.{KIND_LOOK_TEST, KIND_DENIAL_OPEN, KIND_DENIAL_TEST}
 use Rattle.frame_store.specs.declared.kinds.TheConstants.{KIND_CALL_OPEN, KIND_ATOMIC_LEFT, KIND_MARK_PASSED}
 use Rattle.frame_store.specs.declared.kinds.TheConstants.{KIND_COMMIT_PASSED, KIND_PRUNE_PASSED, KIND_SKIP_PASSED}
-use Rattle.frame_store.specs.declared.kinds.TheConstants.{KIND_THEN_PASSED}
+use Rattle.frame_store.specs.declared.kinds.TheConstants.{KIND_THEN_PASSED, KIND_LATER_TRY}
 use Rattle.frame_store.specs.Captures.{Captures}
 use Rattle.frame_store.specs.Entry.{Entry, Undo, LaterBranch, GroupOpen, CalledGroup, TurnOpen, TurnOrExit}
 use Rattle.frame_store.specs.Entry.{LaterTurn, FewerItems, MoreItems, AtomicOpen, LookOpen, LookAllOpen, LookTest}
 use Rattle.frame_store.specs.Entry.{DenialOpen, DenialTest, CallOpen, AtomicLeft, MarkPassed, CommitPassed}
-use Rattle.frame_store.specs.Entry.{PrunePassed, SkipPassed, ThenPassed, Other, site_of, kept_of, kept_value}
+use Rattle.frame_store.specs.Entry.{PrunePassed, SkipPassed, ThenPassed, LaterTry, Other, site_of, kept_of, kept_value}
 use Rattle.frame_store.specs.Entry.{entry_table, entry_in, entry_of, entry_kind, KnownKindLaw, OtherEntryLaw}
 use Rattle.frame_store.specs.Undo.{taken_back}
 
@@ -118,6 +118,10 @@ pub entry_of-then_passed : (r : Record) → r.kind ≡ KIND_THEN_PASSED → entr
 unfolding entry_in
 entry_of-then_passed r e = ap (λ k. entry_in (entry_table r) k (Other (site_of r))) e
 
+pub entry_of-later_try : (r : Record) → r.kind ≡ KIND_LATER_TRY → entry_of r ≡ LaterTry (site_of r) (kept_of r) r.count
+unfolding entry_in
+entry_of-later_try r e = ap (λ k. entry_in (entry_table r) k (Other (site_of r))) e
+
 -- the entry changes no register
 record IsPlain (e : Entry) : Type 0 where
   same : (caps : Captures) → taken_back e caps ≡ caps
@@ -184,7 +188,10 @@ taken_back-not_undo r caps n =
                                       plain (λ caps. refl),
                                       (
                                         plain (λ caps. refl),
-                                        (plain (λ caps. refl), (plain (λ caps. refl), (plain (λ caps. refl), tt))),
+                                        (
+                                          plain (λ caps. refl),
+                                          (plain (λ caps. refl), (plain (λ caps. refl), (plain (λ caps. refl), tt))),
+                                        ),
                                       ),
                                     ),
                                   ),
@@ -261,7 +268,7 @@ entry_kind-entry_of r h =
                           refl,
                           (
                             refl,
-                            (refl, (refl, (refl, (refl, (refl, (refl, (refl, (refl, (refl, (refl, tt)))))))))),
+                            (refl, (refl, (refl, (refl, (refl, (refl, (refl, (refl, (refl, (refl, (refl, tt))))))))))),
                           ),
                         ),
                       ),
@@ -315,7 +322,10 @@ entry_of-other r h = entry_in_none (entry_table r) r.kind (Other (site_of r)) (
                                   λ e. omega arith,
                                   (
                                     λ e. omega arith,
-                                    (λ e. omega arith, (λ e. omega arith, (λ e. omega arith, (λ e. omega arith, tt)))),
+                                    (
+                                      λ e. omega arith,
+                                      (λ e. omega arith, (λ e. omega arith, (λ e. omega arith, (λ e. omega arith, tt)))),
+                                    ),
                                   ),
                                 ),
                               ),
@@ -336,11 +346,11 @@ entry_of-other r h = entry_in_none (entry_table r) r.kind (Other (site_of r)) (
 )
 
 -- a record of another kind has an entry of another kind
-pub entry_kind-not : (r : Record) (k : ℕ) → k ≤ KIND_THEN_PASSED → r.kind ≢ k → entry_kind (entry_of r) ≢ k
+pub entry_kind-not : (r : Record) (k : ℕ) → k ≤ KIND_LATER_TRY → r.kind ≢ k → entry_kind (entry_of r) ≢ k
 entry_kind-not r k h differs same =
-    elim (cases_lt KIND_THEN_PASSED r.kind) [
+    elim (cases_lt KIND_LATER_TRY r.kind) [
       | inl past ↦
-          let other : entry_kind (entry_of r) ≡ KIND_THEN_PASSED + 1 = ap entry_kind (entry_of-other r past) in
+          let other : entry_kind (entry_of r) ≡ KIND_LATER_TRY + 1 = ap entry_kind (entry_of-other r past) in
           omega (arith, other, same, h)
       | inr within ↦ differs (sym (entry_kind-entry_of r within) ∙ same)
     ]

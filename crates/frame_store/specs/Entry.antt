@@ -9,7 +9,7 @@ use Rattle.frame_store.specs.declared.kinds.TheConstants.{KIND_ATOMIC_OPEN, KIND
 use Rattle.frame_store.specs.declared.kinds.TheConstants.{KIND_LOOK_TEST, KIND_DENIAL_OPEN, KIND_DENIAL_TEST}
 use Rattle.frame_store.specs.declared.kinds.TheConstants.{KIND_CALL_OPEN, KIND_ATOMIC_LEFT, KIND_MARK_PASSED}
 use Rattle.frame_store.specs.declared.kinds.TheConstants.{KIND_COMMIT_PASSED, KIND_PRUNE_PASSED, KIND_SKIP_PASSED}
-use Rattle.frame_store.specs.declared.kinds.TheConstants.{KIND_THEN_PASSED}
+use Rattle.frame_store.specs.declared.kinds.TheConstants.{KIND_THEN_PASSED, KIND_LATER_TRY}
 
 -- the pattern's part that left a record, and the height of the innermost part still open then
 pub record Site : Type 0 where
@@ -62,6 +62,8 @@ pub data Entry : Type 0 where
   PrunePassed : Site → Kept → (height : ℕ) → Entry
   SkipPassed : Site → Kept → (height next : ℕ) → Entry
   ThenPassed : Site → Kept → Entry
+  -- a branch of a lookbehind began, and the tries from so many more characters back than its least length are left
+  LaterTry : Site → Kept → (left : ℕ) → Entry
   -- nothing is left to try
   Other : Site → Entry
 
@@ -101,6 +103,7 @@ entry_table r =
     ∷ (KIND_PRUNE_PASSED, PrunePassed (site_of r) (kept_of r) r.from)
     ∷ (KIND_SKIP_PASSED, SkipPassed (site_of r) (kept_of r) r.from r.to)
     ∷ (KIND_THEN_PASSED, ThenPassed (site_of r) (kept_of r))
+    ∷ (KIND_LATER_TRY, LaterTry (site_of r) (kept_of r) r.count)
     ∷ []
 
 -- the entry of a kind in a table, if it has one
@@ -139,6 +142,7 @@ entry_site (CommitPassed at kept height) = at
 entry_site (PrunePassed at kept height) = at
 entry_site (SkipPassed at kept height next) = at
 entry_site (ThenPassed at kept) = at
+entry_site (LaterTry at kept left) = at
 entry_site (Other at) = at
 
 -- the kind of an entry's record, or one past the last kind
@@ -165,15 +169,16 @@ entry_kind (CommitPassed at kept height) = KIND_COMMIT_PASSED
 entry_kind (PrunePassed at kept height) = KIND_PRUNE_PASSED
 entry_kind (SkipPassed at kept height next) = KIND_SKIP_PASSED
 entry_kind (ThenPassed at kept) = KIND_THEN_PASSED
-entry_kind (Other at) = KIND_THEN_PASSED + 1
+entry_kind (LaterTry at kept left) = KIND_LATER_TRY
+entry_kind (Other at) = KIND_LATER_TRY + 1
 
 -- each kind has an entry of its own
 abbrev pub KnownKindLaw : Type 0
-KnownKindLaw = (r : Record) → r.kind ≤ KIND_THEN_PASSED → entry_kind (entry_of r) ≡ r.kind
+KnownKindLaw = (r : Record) → r.kind ≤ KIND_LATER_TRY → entry_kind (entry_of r) ≡ r.kind
 
 -- a record of no known kind has nothing left to try
 abbrev pub OtherEntryLaw : Type 0
-OtherEntryLaw = (r : Record) → KIND_THEN_PASSED < r.kind → entry_of r ≡ Other (site_of r)
+OtherEntryLaw = (r : Record) → KIND_LATER_TRY < r.kind → entry_of r ≡ Other (site_of r)
 
 -- a record of kind 0 is an undo record of the register in its slot
 abbrev pub UndoKindLaw : Type 0

@@ -4,7 +4,7 @@ ghost use Rattle.pat_tree.specs.Rules.{kids_of, asserted_by, classes_of, verb_na
 ghost use Rattle.pat_tree.specs.Rules.{IsOrdered, IsDefine};
 ghost use Rattle.pat_tree.specs.Growing.{loose};
 
-use node_flow::{Branches, Flow, Ranks};
+use node_flow::{Branches, Flow, LookBranches, Ranks};
 use pat_tree::{Cond, Draft, Item, Kids, Memory, Node, NodeId, Options, Tree};
 use std::alloc::Global;
 use std::process::Abort;
@@ -17,6 +17,7 @@ enum Kind {
     Capturing,
     Atomic,
     Look,
+    Behind,
     Condition,
 }
 
@@ -52,6 +53,12 @@ fn around(kind: Kind, branches: Kids, yes: NodeId, no: NodeId) -> Node
         Kind::Atomic => Node::Atomic(branches),
         Kind::Look => Node::Look {
             ahead: true,
+            positive: true,
+            atomic: true,
+            branches,
+        },
+        Kind::Behind => Node::Look {
+            ahead: false,
             positive: true,
             atomic: true,
             branches,
@@ -156,6 +163,7 @@ const FOLLOWERS: &[(Kind, Parts)] = &[
     (Kind::Capturing, FRAMED),
     (Kind::Atomic, FRAMED),
     (Kind::Look, FRAMED),
+    (Kind::Behind, FRAMED),
 ];
 
 fn follows(rt: &impl Abort, alloc: Global, kind: Kind, followers: Parts) -> Result<(), Fail> {
@@ -200,6 +208,7 @@ const BRANCHES: &[(Kind, Parts)] = &[
     (Kind::Capturing, OWN),
     (Kind::Atomic, OWN),
     (Kind::Look, OWN),
+    (Kind::Behind, OWN),
 ];
 
 fn is_in(rt: &impl Abort, alloc: Global, kind: Kind, branches: Parts) -> Result<(), Fail> {
@@ -216,6 +225,31 @@ fn is_in(rt: &impl Abort, alloc: Global, kind: Kind, branches: Parts) -> Result<
 fn branches_are_around_parts_in_their_frame(rt: HostRuntime) -> Result<(), Fail> {
     for (kind, branches) in BRANCHES {
         is_in(&rt, rt.alloc(), *kind, *branches)?;
+    }
+    Ok(())
+}
+
+const LOOK_BRANCHES: &[(Kind, Parts)] = &[
+    (Kind::Plain, &[None; 10]),
+    (Kind::Condition, &[None; 10]),
+    (Kind::Look, &[None; 10]),
+    (Kind::Behind, OWN),
+];
+
+fn is_in_look(rt: &impl Abort, alloc: Global, kind: Kind, branches: Parts) -> Result<(), Fail> {
+    assert!(rt; branches.len() == 10);
+    let tree = tree_of(alloc, kind)?;
+    let around = LookBranches::build(alloc, &tree)?;
+    for part in 0..10usize {
+        assert!(rt; around.of(part as u32) == branches[part]);
+    }
+    Ok(())
+}
+
+#[test]
+fn branches_of_lookbehinds_are_around_parts_in_their_frame(rt: HostRuntime) -> Result<(), Fail> {
+    for (kind, branches) in LOOK_BRANCHES {
+        is_in_look(&rt, rt.alloc(), *kind, *branches)?;
     }
     Ok(())
 }

@@ -2,6 +2,7 @@ pub mod Members
 pub mod Told
 pub mod Children
 pub mod Building
+pub mod Telling
 pub mod Branching
 pub mod Later
 pub mod Among

@@ -25,3 +25,9 @@ repeat_before_c =
     letter 97 0 ∷ letter 98 0 ∷ placed (node.Seq (0 ∷ 1 ∷ [])) 0 ∷ placed (node.Repeat 2 2 (Some 2) false) 0 ∷ letter
     99 0
     ∷ placed (node.Seq (3 ∷ 4 ∷ [])) 0 ∷ []
+
+-- `(?<=(?:a)|(b))d`: a and b are the parts 0 and 2, their groups 1 and 3, and the lookbehind is 4
+abbrev pub look_before_d : List Placed
+look_before_d =
+    letter 97 0 ∷ placed (node.Group None (0 ∷ [])) 0 ∷ letter 98 0 ∷ placed (node.Group (Some 1) (2 ∷ [])) 0
+    ∷ placed (node.Look false true true (1 ∷ 3 ∷ [])) 0 ∷ letter 100 0 ∷ placed (node.Seq (4 ∷ 5 ∷ [])) 0 ∷ []

@@ -1,12 +1,14 @@
 //! The table of the branches around parts.
-ghost use Rattle.std.specs.Prelude.{◌≡◌, ℕ, ◌<◌, if◌then◌else◌, List, ◌∷◌, All, IfOk, OnOk, None, Some, length};
+ghost use Rattle.std.specs.Prelude.{◌≡◌, ℕ, ◌<◌, if◌then◌else◌, List, All, IfOk, OnOk, None, Some, length};
 ghost use Rattle.std.specs.Prelude.{slice_index_or};
 ghost use Rattle.pat_tree.specs.declared.nodes.Placed.{Placed};
 ghost use Rattle.pat_tree.specs.Rules.{kids_of};
 ghost use Rattle.pat_tree.specs.Refs.{is_in};
-ghost use Rattle.node_flow.specs.Branches.{AreBranchesOf, BranchesHangTogether, branch_by, branch_if, branch_of};
+ghost use Rattle.node_flow.specs.Around.{told_by};
+ghost use Rattle.node_flow.specs.Branches.{AreBranchesOf, BranchesHangTogether, branch_child, branch_if, branch_of};
 
-use crate::flow::{nothing_told, tell, tell_branches};
+use crate::around::{Around, table_of, tell_themselves};
+use crate::flow::{tell, tell_branches};
 use pat_tree::{Memory, Node, NodeId, Tree};
 use std::alloc::Global;
 use std::marker::Model;
@@ -33,14 +35,7 @@ impl Branches {
             AreBranchesOf tree.now.nodes tree.now.root branches) }
         ensures laws { OnOk result (BranchesHangTogether tree.now.nodes tree.now.root) }
     {
-        let mut id = tree.root() as usize + 1;
-        let mut branches = nothing_told(alloc, id)?;
-        // parents come before their children
-        while id > 0 {
-            id -= 1;
-            let outer = branches[id];
-            enclose(&mut branches, tree.node(id as NodeId), outer);
-        }
+        let branches = table_of(alloc, tree, Around::Choice)?;
         Ok(Branches { branches })
     }
 
@@ -57,10 +52,11 @@ impl Branches {
 
 /// Tells the children of a node, which are told nothing yet, what branch is around them, where `outer` is around the
 /// node.
-fn enclose(told: &mut [Option<NodeId>], node: &Node, outer: Option<NodeId>)
+pub(crate) fn enclose(told: &mut [Option<NodeId>], node: &Node, outer: Option<NodeId>)
     requires below { All (λ k. k < length told.old) (kids_of node.now) }
     requires untold { All (λ k. slice_index_or told.old k None ≡ None) (kids_of node.now) }
-    ensures { (k : ℕ) → slice_index_or told.new k None ≡ branch_by told.old node.now outer k }
+    ensures { (k : ℕ) → slice_index_or told.new k None
+        ≡ told_by branch_child told.old node.now outer k }
 {
     match node {
         Node::Seq(kids) => tell(told, kids.as_slice(), outer),
@@ -87,16 +83,5 @@ fn tell_choice(told: &mut [Option<NodeId>], branches: &[NodeId], outer: Option<N
         tell(told, branches, outer);
     } else {
         tell_themselves(told, branches);
-    }
-}
-
-/// Tells each of these parts that it is a branch.
-fn tell_themselves(told: &mut [Option<NodeId>], parts: &[NodeId])
-    requires { All (λ k. k < length told.old) parts.now }
-    ensures { (k : ℕ) → slice_index_or told.new k None
-        ≡ (if is_in k parts.now then Some k else slice_index_or told.old k None) }
-{
-    for part in parts {
-        told[*part as usize] = Some(*part);
     }
 }

@@ -55,7 +55,7 @@ try_path (q ∷ qs) p s k f h = p (begun_at q s) k f h
 
 -- what follows a try: it counts where it ends at this place
 unfoldable pub ends_before : ℕ → Follow → Follow
-ends_before place k reached u e = elim (u.place == place) [ true ↦ k reached u e | false ↦ e ]
+ends_before place k reached u e = pause (elim (u.place == place) [ true ↦ k reached u e | false ↦ e ])
 ends_before place k accepted u e = k accepted u e
 
 -- Conditions.

@@ -1,7 +1,7 @@
 -- The branches of a pattern's lookbehinds: how far each begins before its place, and why a pattern is refused for them
 -- (pcre2pattern, "Lookbehind assertions").
 use Rattle.std.specs.Prelude.{◌≡◌, ◌≤◌, ℕ, ◌+◌, pos, true, false, max, List, [], ◌∷◌, length, Option, Some, None}
-use Rattle.std.specs.Prelude.{map, slice_index_or}
+use Rattle.std.specs.Prelude.{slice_index_or}
 use Rattle.std.specs.Option.{option_or}
 use Rattle.pat_tree.specs.declared.nodes.Node.{Node}
 use Rattle.pat_tree.specs.declared.nodes.Node.TheVariants as form
@@ -54,10 +54,6 @@ back_of (Some span) = of_most span.most
 -- the lengths that are kept of a branch
 abbrev pub lengths_back : Back → SomeLengths
 lengths_back back = between back.least (Some back.most)
-
--- the greatest lengths of a list
-abbrev pub mosts : List Back → List ℕ
-mosts = map (λ (b : Back). b.most)
 
 -- the lengths that a list has for a branch
 abbrev pub back_at : List Back → ℕ → Back

@@ -4,7 +4,7 @@ ghost use Rattle.pat_tree.specs.Parts.{TreeParts};
 ghost use Rattle.pat_tree.specs.declared.nodes.Placed.{Placed};
 ghost use Rattle.pat_lengths.specs.Backs as lookbehinds;
 ghost use Rattle.pat_lengths.specs.Backs.{AreBacks, AreBranches, back_at, back_of, behind_branches, fault_from};
-ghost use Rattle.pat_lengths.specs.Backs.{lengths_at, lengths_back, mosts};
+ghost use Rattle.pat_lengths.specs.Backs.{lengths_at, lengths_back};
 ghost use Rattle.pat_lengths.specs.Lengths.{SomeLengths, branch_fault, too_different};
 ghost use Rattle.pat_lengths.specs.Spans.{kept};
 
@@ -74,14 +74,6 @@ impl Backs {
             → branch_fault (lengths_at tree branch) ≡ None → lengths_at tree branch ≡ lengths_back result }
     {
         self.lengths[branch as usize]
-    }
-
-    /// The greatest length of a branch of a lookbehind, in characters. Needs what `of` needs.
-    pub fn most(&self, branch: NodeId) -> u32
-        requires { branch < length self.now }
-        ensures { result ≡ slice_index_or (mosts self.now) branch 0 }
-    {
-        self.of(branch).most
     }
 }
 

@@ -9,7 +9,6 @@ use Rattle.dfa_graph.proofs.Takers.{first_bounded, bounded_step, all_bounded}
 use Rattle.dfa_graph.proofs.Plain.{first_plain_build, plain_step}
 use Rattle.dfa_graph.proofs.Building.{starts, ended, popped, three_more}
 use Rattle.dfa_graph.proofs.Doing.{next_step}
-use Rattle.pat_lengths.specs.Backs.{mosts}
 use Rattle.dfa_paths.proofs.Behind.{ready_whole, are_told}
 use Rattle.dfa_graph.proofs.build.place_tree.Goals as goal
 
@@ -55,7 +54,7 @@ tasks-preserved c =
     c.work_step-step.result c.in-Some.task c.tasks.draft.nodes in
     let work = (popped _ _ _ _ _ _ _ c.tasks.invariant.building c.in-Some.ensures.tasks).1 in
     record {
-      building = next_step _ _ _ (mosts c.args.backs.now)
+      building = next_step _ _ _ c.args.backs.now
           (are_told c.args.tree.now c.args.backs.now c.requires.backs) _ _ _ _ _ _ _
           c.tasks.invariant.building c.in-Some.ensures.tasks
           c.work_step-step.ensures.part
@@ -64,20 +63,20 @@ tasks-preserved c =
       few = omega (arith, l, three, c.tasks.invariant.few, c.if-left-eq0.false);
       can = λ small has.
           can_step c.args.tree.now.nodes (length c.args.tree.now.classes) c.args.tree.now.root
-          c.tasks.left (mosts c.args.backs.now)
+          c.tasks.left c.args.backs.now
           c.tasks.draft.tasks _ c.in-Some.task (c.tasks.invariant.can small has)
           c.in-Some.ensures.tasks work _ c.work_step-step.ensures.part c.work_step-step.ensures.is
           _ _ tasks;
       bounded =
           bounded_step c.args.tree.now.nodes (length c.args.tree.now.classes)
           c.args.tree.now.root
-          (whole_size (tree_of c.args.tree.now.nodes c.args.tree.now.root)) (mosts c.args.backs.now)
+          (whole_size (tree_of c.args.tree.now.nodes c.args.tree.now.root)) c.args.backs.now
           c.tasks.draft.nodes _
           c.tasks.draft.tasks _ _ c.in-Some.task _ c.tasks.invariant.bounded
           c.in-Some.ensures.tasks work c.work_step-step.ensures.part c.work_step-step.ensures.is
           nodes tasks;
       plain = λ plain.
-          plain_step c.args.tree.now.nodes (length c.args.tree.now.classes) (mosts c.args.backs.now)
+          plain_step c.args.tree.now.nodes (length c.args.tree.now.classes) c.args.backs.now
           c.tasks.draft.nodes _
           c.tasks.draft.tasks _ _ c.in-Some.task _ (c.tasks.invariant.plain plain)
           c.in-Some.ensures.tasks work.range c.work_step-step.ensures.part
@@ -94,7 +93,7 @@ pub returns-then-is_refused-clause-none : goal.returns-then-is_refused-clause-no
 returns-then-is_refused-clause-none c small has e =
     false≢true
     (sym (not_refused c.args.tree.now.nodes (length c.args.tree.now.classes)
-    c.args.tree.now.root c.tasks.left (mosts c.args.backs.now)
+    c.args.tree.now.root c.tasks.left c.args.backs.now
     c.tasks.draft.tasks _ c.in-Some.task (c.tasks.invariant.can small has) c.in-Some.ensures.tasks
     (popped _ _ _ _ _ _ _ c.tasks.invariant.building c.in-Some.ensures.tasks).1
     _ c.work_step-step.ensures.part c.work_step-step.ensures.is)

@@ -1,10 +1,11 @@
-use Rattle.std.proofs.Common.{◌≡◌, ◌∙◌, ◌+◌, ◌++◌, ◌∷◌, ◌-◌, suc, ◌<◌, ◌≤◌, [], refl, sym, ap, subst, length, Some}
-use Rattle.std.proofs.Common.{None, false, arith, rules}
+use Rattle.std.proofs.Common.{◌≡◌, ◌∙◌, ◌+◌, ◌++◌, ◌∷◌, ◌-◌, suc, ◌<◌, ◌≤◌, [], refl, sym, ap, subst, length, drop}
+use Rattle.std.proofs.Common.{Some, None, false, arith, rules}
+use Rattle.std.proofs.lemmas.Bool.{true≢false}
 use Rattle.std.proofs.lemmas.Grind.{common_steps}
-use Rattle.std.specs.Prelude.{◌||◌, slice_index_or}
+use Rattle.std.specs.Prelude.{◌||◌, slice_index_or, IfSome}
 use Rattle.pat_tree.specs.declared.nodes.Item.TheVariants.{Char}
 use Rattle.dfa_paths.specs.declared.graph.Node.TheVariants.{One}
-use Rattle.dfa_paths.specs.Graph.{Deep, AllBelow, IsNodeIn, IsFurthest}
+use Rattle.dfa_paths.specs.Graph.{Deep, AllBelow, IsNodeIn, IsFurthest, Tried}
 use Rattle.dfa_lists.specs.Lists.{landed}
 use Rattle.dfa_lists.specs.Searches.{scene_of, PathsOf, MeetsOf, IsPlaceOf}
 use Rattle.dfa_paths.proofs.Places.{get_of}
@@ -13,13 +14,17 @@ use Rattle.dfa_lists.proofs.Closing.{popped_in, popped_marks, passed_over, visit
 use Rattle.dfa_lists.proofs.Running.{starts, goes_on, stands_here, waiting_below, below_like, leaves_in}
 use Rattle.dfa_lists.proofs.Running.{place_follows, none_taken, all_found, no_end, last_found}
 use Rattle.dfa_lists.proofs.Following.{no_more, deep_stand}
-use Rattle.dfa_lists.proofs.Visits.{look_visit, none_where, ends_here, ends_none, ends_from, atomic_visit}
+use Rattle.dfa_lists.proofs.BranchTries.{no_place_try, place_try, furthest_try, end_is, first_trying, later_trying}
+use Rattle.dfa_lists.proofs.BranchTries.{rest_is, all_tried, told_of_all, none_left, ended_behind}
+use Rattle.dfa_lists.specs.Tries.{IsTryEnd, places_of}
+use Rattle.match_items.specs.Items.{places_back}
+use Rattle.dfa_lists.proofs.Visits.{look_visit, ends_here, atomic_visit}
 use Rattle.dfa_lists.proofs.Visits.{plain_node, plain_visits}
 use Rattle.dfa_paths.specs.Meets.{DeepMeets, IsTold}
 use Rattle.dfa_lists.proofs.Telling.{told_not, told_or, told_like, begin_probing, branch_inside, on_probed}
-use Rattle.dfa_lists.proofs.Telling.{end_probed, probed_all, begin_told, visited_told, closed_told, starts_told}
+use Rattle.dfa_lists.proofs.Telling.{asked_some, end_probed, probed_all, begin_told, visited_told, closed_told}
+use Rattle.dfa_lists.proofs.Telling.{starts_told}
 use Rattle.dfa_lists.proofs.Telling.{told_follows, none_told, all_told, plain_tells, look_told, atomic_told}
-use Rattle.dfa_lists.proofs.Telling.{behind_none, behind_some}
 use Rattle.dfa_lists.proofs.lists.+ends.Goals as goal
 use Rattle.dfa_lists.proofs.lists.+ends.Goals.{ends_of-then-not-is_empty+in_ok-take_place, ends_of-else-not-is_empty}
 
@@ -326,35 +331,124 @@ furthest-returns-clause-told g t c =
     c.args.told.now c.tell.new.told) level
     (told_or _ _ _ _ c.tell.ensures c.in_ok-set.ensures.hit c.in_ok-set.ensures.all_hit)
 
+-- ends_at
+
+pub ends_at-returns-then-depth-eq0-clause-end : goal.ends_at-returns-then-depth-eq0-clause-end
+unfolding Deep
+ends_at-returns-then-depth-eq0-clause-end g t c =
+    no_place_try (PathsOf c.args.search.now c.args.depth) c.args.entry c.args.from c.args.at
+    (λ h. subst (λ d. PathsOf c.args.search.now d c.args.entry c.args.from c.args.at) c.if-depth-eq0.true h)
+
+pub ends_at-returns-then-depth-eq0-clause-told : goal.ends_at-returns-then-depth-eq0-clause-told
+unfolding DeepMeets
+ends_at-returns-then-depth-eq0-clause-told g t c =
+    told_not _ _ _ refl
+    (λ h. subst (λ d. MeetsOf c.args.search.now d c.args.entry c.args.from) c.if-depth-eq0.true h)
+
+pub ends_at-returns-then-has_end-clause-end : goal.ends_at-returns-then-has_end-clause-end
+ends_at-returns-then-has_end-clause-end g t c =
+    let s = c.args.search.now in
+    let level : suc (c.args.depth - 1) ≡ c.args.depth = omega (arith, c.if-depth-eq0.false) in
+    subst (λ d. IsTryEnd (PathsOf s d) c.args.entry c.args.from false c.args.at (Some c.args.at)) level
+    (place_try (PathsOf s (suc (c.args.depth - 1))) c.args.entry c.args.from c.args.at
+    (c.in_ok-found.ensures.sound c.args.at (c.has_end.ensures.has c.if-has_end.true)))
+
+pub ends_at-returns-then-has_end-clause-told : goal.ends_at-returns-then-has_end-clause-told
+ends_at-returns-then-has_end-clause-told g t c =
+    let s = c.args.search.now in
+    let level : suc (c.args.depth - 1) ≡ c.args.depth = omega (arith, c.if-depth-eq0.false) in
+    subst (λ d. IsTold (MeetsOf s d c.args.entry c.args.from) c.args.told.now c.tell.new.told) level
+    (told_or _ _ _ _ c.tell.ensures c.in_ok-found.ensures.hit c.in_ok-found.ensures.all_hit)
+
+pub ends_at-returns-clause-end : goal.ends_at-returns-clause-end
+ends_at-returns-clause-end g t c =
+    let s = c.args.search.now in
+    let level : suc (c.args.depth - 1) ≡ c.args.depth = omega (arith, c.if-depth-eq0.false) in
+    subst (λ d. IsTryEnd (PathsOf s d) c.args.entry c.args.from false c.args.at None) level
+    (no_place_try (PathsOf s (suc (c.args.depth - 1))) c.args.entry c.args.from c.args.at
+    (λ b. true≢false (sym (c.has_end.ensures.has_not (c.in_ok-found.ensures.full c.args.at b))
+    ∙ c.if-has_end.false)))
+
+pub ends_at-returns-clause-told : goal.ends_at-returns-clause-told
+ends_at-returns-clause-told g t c =
+    let s = c.args.search.now in
+    let level : suc (c.args.depth - 1) ≡ c.args.depth = omega (arith, c.if-depth-eq0.false) in
+    subst (λ d. IsTold (MeetsOf s d c.args.entry c.args.from) c.args.told.now c.tell.new.told) level
+    (told_or _ _ _ _ c.tell.ensures c.in_ok-found.ensures.hit c.in_ok-found.ensures.all_hit)
+
+-- end_of_try
+
+pub end_of_try-returns-then-each-clause-end : goal.end_of_try-returns-then-each-clause-end
+end_of_try-returns-then-each-clause-end g t c =
+    furthest_try c.furthest.result (PathsOf c.args.search.now c.args.depth) c.args.entry c.args.from c.args.at
+    c.args.each c.if-each.true c.furthest.ensures.furthest
+
+pub end_of_try-returns-clause-end : goal.end_of_try-returns-clause-end
+end_of_try-returns-clause-end g t c = rw c.if-each.false c.ends_at.ensures.end
+
 -- end_behind
 
-pub end_behind-returns-in_default-clause-behind : goal.end_behind-returns-in_default-clause-behind
-end_behind-returns-in_default-clause-behind g t c =
+pub end_behind-tries-init : goal.end_behind-tries-init
+end_behind-tries-init g t c =
     let s = c.args.search.now in
-    ends_none s.view.now s.classes.now (PathsOf s c.args.depth)
-    c.args.back c.args.entry c.args.at c.text_back.result c.text_back.ensures.value
-    (none_where c.text_back.result c.in_default.not-Some)
+    record {
+      trying = first_trying (Tried (PathsOf s c.args.depth) (Some c.args.back) c.args.at c.args.entry)
+          (MeetsOf s c.args.depth c.args.entry) s.view.now s.classes.now c.args.back.least c.args.back.most c.args.at
+          c.first_try-next.result c.args.told.now c.first_try-next.ensures.tries;
+      place = c.first_try-next.ensures.place;
+    }
 
-pub end_behind-returns-in_default-clause-told : goal.end_behind-returns-in_default-clause-told
-end_behind-returns-in_default-clause-told g t c =
+pub end_behind-tries-preserved : goal.end_behind-tries-preserved
+end_behind-tries-preserved g t c =
     let s = c.args.search.now in
-    behind_none s.view.now s.classes.now (MeetsOf s c.args.depth) c.args.back c.args.entry
-    c.args.at c.text_back.result _ _
-    c.text_back.ensures.value (none_where c.text_back.result c.in_default.not-Some) refl
+    let T = Tried (PathsOf s c.args.depth) (Some c.args.back) c.args.at c.args.entry in
+    record {
+      trying = rw c.or-some.ensures
+          (later_trying T (MeetsOf s c.args.depth c.args.entry) s.view.now s.classes.now
+          (drop c.args.back.least (places_back (scene_of s) c.args.back.most c.args.at)) c.tries.next
+          c.later_try-next.result c.in-Some.tried c.tries.some c.in_ok-end.end c.args.told.now c.tries.told
+          c.end_of_try.new.told c.in-Some.is c.later_try-next.ensures.tries c.tries.invariant.trying
+          (end_is (PathsOf s c.args.depth) c.args.back c.args.at c.args.entry c.in-Some.tried.place c.in_ok-end.end
+          c.in_ok-end.ensures.end) c.in_ok-end.ensures.told);
+      place = c.later_try-next.ensures.place;
+    }
+
+pub end_behind-tries-smaller : goal.end_behind-tries-smaller
+end_behind-tries-smaller g t c =
+    let s = c.args.search.now in
+    let fewer = ap length (rest_is (Tried (PathsOf s c.args.depth) (Some c.args.back) c.args.at c.args.entry)
+    (MeetsOf s c.args.depth c.args.entry) s.view.now s.classes.now c.tries.next c.later_try-next.result c.in-Some.tried
+    c.in-Some.is c.later_try-next.ensures.tries) in
+    omega (arith, fewer)
+
+pub end_behind-end_of_try-requires : goal.end_behind-end_of_try-requires
+end_behind-end_of_try-requires g t c =
+    let place : IsPlaceOf c.args.search.now c.in-Some.tried.place
+    = subst (λ o. IfSome o (λ t. IsPlaceOf c.args.search.now t.place)) c.in-Some.is c.tries.invariant.place in
+    search rules
+
+pub end_behind-later_try-next-requires-clause-place : goal.end_behind-later_try-next-requires-clause-place
+end_behind-later_try-next-requires-clause-place g t c =
+    subst (λ o. IfSome o (λ t. IsPlaceOf c.args.search.now t.place)) c.in-Some.is c.tries.invariant.place
 
 pub end_behind-returns-clause-behind : goal.end_behind-returns-clause-behind
 end_behind-returns-clause-behind g t c =
     let s = c.args.search.now in
-    ends_from c.furthest.result s.view.now s.classes.now (PathsOf s c.args.depth)
-    c.args.back c.args.entry c.args.at c.in-Some.place c.text_back.result
-    c.text_back.ensures.value c.in-Some.is c.furthest.ensures.furthest
+    let B = PathsOf s c.args.depth in
+    let all = drop c.args.back.least (places_back (scene_of s) c.args.back.most c.args.at) in
+    ended_behind (scene_of s) B c.args.back c.args.entry c.args.at c.tries.some
+    (all_tried (Tried B (Some c.args.back) c.args.at c.args.entry) (MeetsOf s c.args.depth c.args.entry) all
+    (places_of (scene_of s) c.tries.next) c.tries.some c.args.told.now c.tries.told
+    (none_left (scene_of s) c.tries.next c.in_default.is) c.tries.invariant.trying)
 
 pub end_behind-returns-clause-told : goal.end_behind-returns-clause-told
 end_behind-returns-clause-told g t c =
     let s = c.args.search.now in
-    behind_some c.furthest.result s.view.now s.classes.now (MeetsOf s c.args.depth) c.args.back
-    c.args.entry c.args.at c.in-Some.place c.text_back.result _ _
-    c.text_back.ensures.value c.in-Some.is c.furthest.ensures.told
+    told_of_all (Tried (PathsOf s c.args.depth) (Some c.args.back) c.args.at c.args.entry)
+    (MeetsOf s c.args.depth c.args.entry)
+    (drop c.args.back.least (places_back (scene_of s) c.args.back.most c.args.at))
+    (places_of (scene_of s) c.tries.next) c.tries.some c.args.told.now c.tries.told
+    (none_left (scene_of s) c.tries.next c.in_default.is) c.tries.invariant.trying
 
 -- probe
 
@@ -407,3 +501,11 @@ ask-returns-in_default g t c = record {
       c.args.entry c.args.at c.furthest.ensures.furthest);
   told = rw c.in_default.is c.furthest.ensures.told;
 }
+
+pub ask-returns-in_ok-probe-clause-told : goal.ask-returns-in_ok-probe-clause-told
+ask-returns-in_ok-probe-clause-told g t c =
+    let s = c.args.search.now in
+    rw c.in-Some.is
+    (asked_some (scene_of s) s.nodes.now s.counts (PathsOf s c.args.depth) (MeetsOf s c.args.depth) c.in-Some.back
+    c.args.entry c.args.miss c.args.at _ c.in_ok-some.some c.args.told.now c.end_behind.new.told c.probe.new.told
+    c.in-Some-some.is c.in_ok-some.ensures.behind c.in_ok-some.ensures.told c.in_ok-probe.ensures)

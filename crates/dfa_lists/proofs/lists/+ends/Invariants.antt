@@ -1,28 +1,32 @@
-use Rattle.std.proofs.Common.{◌≡◌, ◌+◌, ◌-◌, ◌*◌, ◌<◌, length}
-use Rattle.dfa_paths.specs.Graph.{IsFlat}
-use Rattle.dfa_lists.specs.Searches.{scene_of, PathsOf, MeetsOf}
+use Rattle.std.proofs.Common.{◌≡◌, ◌+◌, ◌-◌, ◌*◌, ◌<◌, length, drop, Some}
+use Rattle.std.specs.Prelude.{IfSome}
+use Rattle.match_items.specs.Items.{places_back}
+use Rattle.dfa_paths.specs.Graph.{IsFlat, Tried}
+use Rattle.dfa_lists.specs.Searches.{scene_of, PathsOf, MeetsOf, IsPlaceOf}
+use Rattle.dfa_lists.specs.Tries.{places_of}
 use Rattle.dfa_lists.proofs.Closing.{Going, unmarked}
 use Rattle.dfa_lists.proofs.Running.{Running}
 use Rattle.dfa_lists.proofs.Telling.{GoingTold, RunningTold, Probing}
+use Rattle.dfa_lists.proofs.BranchTries.{Trying}
 use Rattle.dfa_lists.proofs.lists.+ends.Given as goal
 
 abbrev pub decreases-ends_of : goal.decreases-ends_of
-decreases-ends_of g l = l.depth * 8 + 7
+decreases-ends_of g l = l.depth * 16 + 8
 
 abbrev pub decreases-take_place : goal.decreases-take_place
-decreases-take_place g l = l.depth * 8 + 6
+decreases-take_place g l = l.depth * 16 + 7
 
 abbrev pub decreases-close : goal.decreases-close
-decreases-close g l = l.depth * 8 + 5
+decreases-close g l = l.depth * 16 + 6
 
 abbrev pub decreases-visit : goal.decreases-visit
-decreases-visit g l = l.depth * 8 + 4
+decreases-visit g l = l.depth * 16 + 5
 
 abbrev pub decreases-ask : goal.decreases-ask
-decreases-ask g l = l.depth * 8 + 3
+decreases-ask g l = l.depth * 16 + 4
 
 abbrev pub decreases-probe : goal.decreases-probe
-decreases-probe g l = l.depth * 8 + 2
+decreases-probe g l = l.depth * 16 + 3
 
 abbrev pub invariant-probe-branches : goal.invariant-probe-branches
 invariant-probe-branches g l = record {
@@ -36,10 +40,28 @@ abbrev pub decreases-probe-branches : goal.decreases-probe-branches
 decreases-probe-branches g l = length l.search.nodes.now - l.state
 
 abbrev pub decreases-end_behind : goal.decreases-end_behind
-decreases-end_behind g l = l.depth * 8 + 1
+decreases-end_behind g l = l.depth * 16 + 2
+
+abbrev pub invariant-end_behind-tries : goal.invariant-end_behind-tries
+invariant-end_behind-tries g l = record {
+  trying : Trying (Tried (PathsOf l.search l.depth) (Some l.fn.back) l.at l.entry)
+      (MeetsOf l.search l.depth l.entry)
+      (drop l.fn.back.least (places_back (scene_of l.search) l.fn.back.most l.at))
+      (places_of (scene_of l.search) l.next) l.some l.fn.told l.told;
+  place : IfSome l.next (λ t. IsPlaceOf l.search t.place);
+}
+
+abbrev pub decreases-end_behind-tries : goal.decreases-end_behind-tries
+decreases-end_behind-tries g l = length (places_of (scene_of l.search) l.next)
+
+abbrev pub decreases-end_of_try : goal.decreases-end_of_try
+decreases-end_of_try g l = l.depth * 16 + 1
+
+abbrev pub decreases-ends_at : goal.decreases-ends_at
+decreases-ends_at g l = l.depth * 16
 
 abbrev pub decreases-furthest : goal.decreases-furthest
-decreases-furthest g l = l.depth * 8
+decreases-furthest g l = l.depth * 16
 
 abbrev pub invariant-close-seeds : goal.invariant-close-seeds
 invariant-close-seeds g l = record {

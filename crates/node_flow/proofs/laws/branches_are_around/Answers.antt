@@ -1,5 +1,6 @@
-use Rattle.node_flow.proofs.Branching.{branches_are_around}
+use Rattle.node_flow.specs.Branches.{branch_child}
+use Rattle.node_flow.proofs.Telling.{hang_together}
 use Rattle.node_flow.proofs.laws.branches_are_around.Goals as goal
 
 pub returns : goal.returns
-returns c = branches_are_around
+returns c = hang_together branch_child

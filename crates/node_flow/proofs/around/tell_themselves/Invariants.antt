@@ -1,6 +1,6 @@
 use Rattle.std.proofs.Common.{◌≡◌, ℕ, if◌then◌else◌, take, length, get_or, Some, None}
 use Rattle.pat_tree.specs.Refs.{is_in}
-use Rattle.node_flow.proofs.branches.tell_themselves.Given as goal
+use Rattle.node_flow.proofs.around.tell_themselves.Given as goal
 
 abbrev pub invariant-loop-part : goal.invariant-loop-part
 invariant-loop-part l = record {
