@@ -3,7 +3,8 @@
 pub struct Key {
     /// The place in the subject, in bytes.
     pub place: u64,
-    /// What tells visits of one site apart: a bit for each repeat around it, whether its turn has taken nothing yet.
+    /// What tells visits of one site apart: a bit for each repeat around it, whether its turn has
+    /// taken nothing yet.
     pub bits: u64,
     /// The number of the pattern's part.
     pub site: u32,

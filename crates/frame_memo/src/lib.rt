@@ -1,5 +1,5 @@
-//! What a search remembers of its failures: at which sites and places it failed, and at what cost, so that it needs
-//! not fail there again.
+//! What a search remembers of its failures: at which sites and places it failed, and at what cost,
+//! so that it needs not fail there again.
 #![tactic(auto)]
 
 mod failure;

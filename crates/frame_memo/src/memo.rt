@@ -9,8 +9,9 @@ use crate::worth::Worth;
 use std::alloc::Global;
 use std::marker::Model;
 
-/// The failures that a search remembers, over all its start places. It may forget any of them: a table has a bound of
-/// 8 MiB, and where memory is wanting, it is smaller or closed. Clauses see it as a list of failures.
+/// The failures that a search remembers, over all its start places. It may forget any of them: a
+/// table has a bound of 8 MiB, and where memory is wanting, it is smaller or closed. Clauses see it
+/// as a list of failures.
 #[derive(Drop)]
 pub struct Memo {
     slots: Vec<Slot>,
@@ -57,8 +58,9 @@ impl Memo {
         }
     }
 
-    /// Opens the table for a search of a subject of so many bytes, without a failure. The search is to ask it only
-    /// after 4,096 Steps and 32 for each byte, so that it costs a short search nothing.
+    /// Opens the table for a search of a subject of so many bytes, without a failure. The search is
+    /// to ask it only after 4,096 Steps and 32 for each byte, so that it costs a short search
+    /// nothing.
     pub fn open(&mut self, bytes: usize)
         ensures { self.new ≡ record {
           kept = [];
@@ -109,8 +111,8 @@ impl Memo {
         found
     }
 
-    /// Keeps a failure, where the table is open: it may take the place of others. Where there is no memory for a first
-    /// failure, the table is closed.
+    /// Keeps a failure, where the table is open: it may take the place of others. Where there is no
+    /// memory for a first failure, the table is closed.
     pub fn put(&mut self, failure: Failure)
         ensures stored { self.new.is_open ≡ true → Contains self.new.kept failure }
         ensures no_other { All (Contains (failure ∷ self.old.kept)) self.new.kept }
@@ -130,8 +132,8 @@ impl Memo {
         self.puts = self.puts.wrapping_add(1);
     }
 
-    /// Goes on to the next start place, after so many Steps at the last one. A table that answered less than one
-    /// question in 16 at each of 16 start places in a row is closed.
+    /// Goes on to the next start place, after so many Steps at the last one. A table that answered
+    /// less than one question in 16 at each of 16 start places in a row is closed.
     pub fn leave(&mut self, steps: u64)
         ensures wait { self.new.wait ≡ self.old.wait - steps }
         ensures worth { self.new.worth ≡ left self.old.worth }

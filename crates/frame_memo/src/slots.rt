@@ -100,7 +100,8 @@ pub(crate) fn find(slots: &[Slot], key: &Key) -> Option<Cost>
     None
 }
 
-/// The slot for a failure in the set that begins there: one that has its key or is free, else the one whose turn it is.
+/// The slot for a failure in the set that begins there: one that has its key or is free, else the
+/// one whose turn it is.
 fn way_for(slots: &[Slot], base: usize, key: &Key, turn: usize) -> usize
     requires { base + 4 ≤ length slots.now }
     ensures { (base ≤ result) × (result < base + 4) }
@@ -113,8 +114,8 @@ fn way_for(slots: &[Slot], base: usize, key: &Key, turn: usize) -> usize
     base + turn % WAYS
 }
 
-/// Keeps a failure, in place of one that stood in its slot, and gives the number of free slots that it took. Where no
-/// slot in its set is free, the turn says which.
+/// Keeps a failure, in place of one that stood in its slot, and gives the number of free slots that
+/// it took. Where no slot in its set is free, the turn says which.
 pub(crate) fn store(slots: &mut [Slot], failure: Failure, turn: usize) -> usize
     requires some { 0 < length slots.old }
     requires sets { length slots.old % 4 ≡ 0 }
@@ -138,8 +139,8 @@ pub(crate) fn store(slots: &mut [Slot], failure: Failure, turn: usize) -> usize
     took
 }
 
-/// Makes room for further failures where half of the slots are taken, up to `most` slots. It gives the most slots that
-/// there may be from now on, which are fewer where memory is wanting.
+/// Makes room for further failures where half of the slots are taken, up to `most` slots. It gives
+/// the most slots that there may be from now on, which are fewer where memory is wanting.
 pub(crate) fn make_room(slots: &mut Vec<Slot>, taken: usize, most: usize) -> usize
     requires sets { length slots.old.items % 4 ≡ 0 }
     requires few { length slots.old.items ≤ 262144 }
@@ -179,8 +180,9 @@ fn grow(slots: &mut Vec<Slot>) -> bool
     true
 }
 
-/// Moves each failure among the first `len` slots into its set. There is none in a later slot yet. A set goes to one
-/// of two that stand where it stood or later: the last goes first, so that none is lost.
+/// Moves each failure among the first `len` slots into its set. There is none in a later slot yet.
+/// A set goes to one of two that stand where it stood or later: the last goes first, so that none
+/// is lost.
 fn move_home(slots: &mut [Slot], len: usize)
     requires within { len ≤ length slots.old }
     requires some { 0 < length slots.old }
