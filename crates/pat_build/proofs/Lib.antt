@@ -6,6 +6,7 @@ pub mod Waiting
 pub mod Numbers
 pub mod Naming
 pub mod Taking
+pub mod Alternatives
 pub mod Nesting
 pub mod Adding
 pub mod Calling

@@ -6,7 +6,8 @@ use Rattle.pat_nodes.proofs.References.{nothing_in}
 use Rattle.pat_build.proofs.Waiting.{ends_level}
 use Rattle.pat_build.proofs.Numbers.{frame_numbered}
 use Rattle.pat_build.proofs.Nesting.{close_means, close_test_means, lead_stands, lead_ends, test_means}
-use Rattle.pat_build.proofs.Nesting.{unopened_means, bars_last}
+use Rattle.pat_build.proofs.Nesting.{unopened_means}
+use Rattle.pat_build.proofs.Alternatives.{bars_last}
 use Rattle.pat_build.proofs.machine.Machine.close.Goals as goal
 
 pub returns-in_default-clause-bad : goal.returns-in_default-clause-bad
