@@ -10,7 +10,7 @@ use Rattle.pat_lengths.specs.Nodes.{captures}
 use Rattle.pat_lengths.specs.Passing.{flagged, IsAt, place_of}
 use Rattle.pat_lengths.proofs.KeepLemmas.{keep_more}
 use Rattle.pat_lengths.proofs.RoundLemmas.{lost}
-use Rattle.pat_lengths.proofs.behind.leads_back.Goals as goal
+use Rattle.pat_lengths.proofs.behind.each_searched.Goals as goal
 
 pub loop-target-preserved : goal.loop-target-preserved
 loop-target-preserved c =
