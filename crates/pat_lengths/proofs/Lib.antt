@@ -17,3 +17,4 @@ pub mod LeadingLemmas
 pub mod RingLemmas
 pub mod PlainLemmas
 pub mod SettleLemmas
+pub mod EmptyLemmas

@@ -125,7 +125,7 @@ own_names trees (node.Call x) = refl
 own_names trees (node.Ref groups caseless) = refl
 own_names trees _ = refl
 
-all_behind : (P : ℕ → Type 0) (xs ys : List ℕ) → All P (xs ++ ys) → All P ys
+pub all_behind : (P : ℕ → Type 0) (xs ys : List ℕ) → All P (xs ++ ys) → All P ys
 all_behind P [] ys h = h
 all_behind P (x ∷ xs) ys h = all_behind P xs ys (All-tail P x (xs ++ ys) h)
 

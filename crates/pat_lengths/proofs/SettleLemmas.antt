@@ -60,6 +60,16 @@ module _ (whole : Nested) where
       ]
     ]
 
+  -- a group that doesn't lead back to itself leads to fewer groups than there are
+  pub rank_below : (n : ℕ) → leads_back whole n ≡ false → Contains (numbers_of_groups whole) n → rank n < limit
+  rank_below n h at = elim (cases_lt (rank n) limit) [
+    | inl lt ↦ lt
+    | inr le ↦
+        let count = so_many whole in
+        absurd (false≢true (sym h ∙ All-contains (λ y. goes n y ≡ true) (numbers_of_groups whole) n
+        (full (goes n) (numbers_of_groups whole) (omega (arith, count, le))) at))
+  ]
+
   module _ (unset : Bool) where
     none_there : (d n : ℕ) → group_of whole n ≡ None → behind unset whole d n ≡ None
     unfolding behind
@@ -159,13 +169,9 @@ module _ (whole : Nested) where
         by_back true h = back_any (suc limit) n (omega arith) h ∙ sym (back_any limit n (omega arith) h)
         by_back false h = elim (there whole n n) [
           | inl none ↦ none_there (suc limit) n none ∙ sym (none_there limit n none)
-          | inr at ↦ elim (cases_lt (rank n) limit) [
-            | inl lt ↦ stays (suc (rank n)) n (omega arith) (suc limit) limit (omega (arith, lt)) lt
-            | inr le ↦
-                let count = so_many whole in
-                absurd (false≢true (sym h ∙ All-contains (λ y. goes n y ≡ true) (numbers_of_groups whole) n
-                (full (goes n) (numbers_of_groups whole) (omega (arith, count, le))) at))
-          ]
+          | inr at ↦
+              let lt = rank_below n h at in
+              stays (suc (rank n)) n (omega arith) (suc limit) limit (omega (arith, lt)) lt
         ]
 
     -- a table that a round doesn't change has the lengths of the groups

@@ -85,7 +85,7 @@ fn freed(alloc: Global, spans: &[Option<Span>], free: &[bool]) -> Result<Vec<Opt
 
 /// Which groups lead back to themselves by calls and references.
 // By rings that a search found, once they are known to be right. Were they not, each group would be searched by itself.
-fn leads_back(
+pub(crate) fn leads_back(
     alloc: Global,
     tree: &Tree,
     groups: &Groups,
