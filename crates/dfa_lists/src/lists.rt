@@ -245,6 +245,15 @@ fn probe<L: Ledger>(
     Ok(())
 }
 
+/// What a lookaround asks: whether nested paths from `entry` have an end, which begin so far back where it is a branch
+/// of a lookbehind. Without an end it goes on at `miss`.
+#[derive(Clone, Copy, Debug, PartialEq, Eq)]
+struct Question {
+    back: Option<Back>,
+    entry: u32,
+    miss: u32,
+}
+
 /// An end of the nested paths that a lookaround asks for, if they have one. Where a branch of a
 /// lookbehind has one, the later branches are tried all the same, since each may reach the subject's
 /// end.
@@ -252,9 +261,7 @@ fn probe<L: Ledger>(
 fn ask<L: Ledger>(
     search: &Search<'_>,
     depth: u32,
-    back: Option<Back>,
-    entry: u32,
-    miss: u32,
+    question: Question,
     at: usize,
     told: &mut bool,
     pool: &mut Lists,
@@ -262,19 +269,20 @@ fn ask<L: Ledger>(
 ) -> Result<Option<usize>, Memory>
     requires search { IsSearch search.now }
     requires place { IsPlaceOf search.now at }
-    requires entry { entry < length search.now.nodes.now }
-    requires miss { miss < length search.now.nodes.now }
+    requires entry { question.entry < length search.now.nodes.now }
+    requires miss { question.miss < length search.now.nodes.now }
     ensures behind { IfOk result (IsEndBehind (scene_of search.now)
-        (PathsOf search.now depth) back entry at) }
-    ensures told { IfOk result (λ _. IsTold (AsksOf search.now depth back entry miss at)
+        (PathsOf search.now depth) question.back question.entry at) }
+    ensures told { IfOk result (λ _. IsTold
+        (AsksOf search.now depth question.back question.entry question.miss at)
         told.old told.new) }
 {
-    let Some(back) = back else {
-        return furthest(search, depth, entry, at, told, pool, steps);
+    let Some(back) = question.back else {
+        return furthest(search, depth, question.entry, at, told, pool, steps);
     };
-    let some = end_behind(search, depth, back, entry, at, told, pool, steps)?;
+    let some = end_behind(search, depth, back, question.entry, at, told, pool, steps)?;
     if let Some(_) = some {
-        probe(search, depth, miss, at, told, pool, steps)?;
+        probe(search, depth, question.miss, at, told, pool, steps)?;
     }
     Ok(some)
 }
@@ -347,7 +355,8 @@ fn visit<L: Ledger>(
             miss,
         } => {
             let told = &mut lists.told;
-            let some = ask(search, depth, back, entry, miss, at, told, pool, steps)?;
+            let question = Question { back, entry, miss };
+            let some = ask(search, depth, question, at, told, pool, steps)?;
             lists.seeds.push(way(some, hit, miss))?;
             Ok(false)
         }

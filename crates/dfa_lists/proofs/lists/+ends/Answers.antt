@@ -498,7 +498,7 @@ ask-returns-in_default g t c = record {
   behind = rw c.in_default.is
       (ends_here c.furthest.result (scene_of c.args.search.now)
       (PathsOf c.args.search.now c.args.depth)
-      c.args.entry c.args.at c.furthest.ensures.furthest);
+      c.args.question.entry c.args.at c.furthest.ensures.furthest);
   told = rw c.in_default.is c.furthest.ensures.told;
 }
 
@@ -507,5 +507,6 @@ ask-returns-in_ok-probe-clause-told g t c =
     let s = c.args.search.now in
     rw c.in-Some.is
     (asked_some (scene_of s) s.nodes.now s.counts (PathsOf s c.args.depth) (MeetsOf s c.args.depth) c.in-Some.back
-    c.args.entry c.args.miss c.args.at _ c.in_ok-some.some c.args.told.now c.end_behind.new.told c.probe.new.told
+    c.args.question.entry c.args.question.miss c.args.at _ c.in_ok-some.some c.args.told.now c.end_behind.new.told
+    c.probe.new.told
     c.in-Some-some.is c.in_ok-some.ensures.behind c.in_ok-some.ensures.told c.in_ok-probe.ensures)
