@@ -480,7 +480,12 @@ fn rarest(parts: &[NodeId], needs: &[Option<Wanted>], anywhere: bool) -> Option<
 {
     let mut run = None;
     let mut best = None;
-    let mut i = parts.len();
+    // where matches begin, the run of the first three parts is all that counts
+    let mut i = if anywhere {
+        parts.len()
+    } else {
+        parts.len().min(3)
+    };
     while i > 0 {
         i -= 1;
         let need = &needs[parts[i] as usize];
