@@ -434,10 +434,10 @@ static void limited(const char *pattern, uint32_t options, const char *s, uint32
     places("", pcre2_match(c, (PCRE2_SPTR)s, len, len / 3, matching, m, with), m);
     places("all ends",
            pcre2_dfa_match(c, (PCRE2_SPTR)s, len, len / 3, matching, m, with, work, 100), m);
-    if (matching) continue;
+    if (matching || options & PCRE2_MATCH_INVALID_UTF) continue;
     int rc = pcre2_substitute(c, (PCRE2_SPTR)s, len, len / 3, 0, NULL, with, (PCRE2_SPTR) "<$0>", 4,
                               (PCRE2_UCHAR *)out, &room);
-    printf("replaced: %d %zd %s\n", rc, room, out);
+    printf("replaced: %d %zd %s\n", rc, room, rc >= 0 ? out : "");
   }
   pcre2_match_context_free(with);
   pcre2_match_data_free(m);
