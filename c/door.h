@@ -24,6 +24,7 @@ struct door_match_asked {
   bool anchored, endanchored, notbol, noteol, notempty, notempty_atstart, dfa_shortest;
   uint8_t partial;
   uint32_t match_limit, frame_limit;
+  uint64_t offset_limit;
 };
 
 struct door_subst_asked {

@@ -4,7 +4,8 @@
     tests/beside_stock.py [PATTERNS [SEED]]
 
 STOCK and OURS name the two libraries. Start optimisations are off in both, since they change marks and limits. What
-differs is written, and then counted."""
+differs is written, SHOWN times of each kind (10), and then counted. Each match is also held to what is told of the
+first code unit."""
 import ctypes
 import os
 import random
@@ -20,9 +21,11 @@ OPTIONS = [0x8, 0x400, 0x20, 0x80000, 0xA0000, 0x80, 0x80000000, 0x10, 0x40000, 
 MATCH_OPTIONS = [0x1, 0x2, 0x4, 0x8, 0x10, 0x20, 0x80000000]
 PARTIAL = 0x30
 INFO = {"groups": 4, "names": 17, "entry": 18, "empty": 13}
+FIRST, FIRST_TYPE = 5, 6
 LIMITS = {-47, -52, -53, -63}
 NOT_BUILT = {195}
 NO_DFA = {-40, -42, -43}
+SHOWN = int(os.environ.get("SHOWN", "10"))
 
 ITEMS = r"""a b c x ab . \d \w \s \b \B ^ $ [ab] [^a] [a-c\d] \W é \x41 \h \R \N [[:alpha:]] \p{L}
 \P{Lu} \A \z \Z \G A B 1
@@ -70,6 +73,13 @@ class Library:
             self.call("pattern_info")(code, question, ctypes.byref(n))
             told[name] = n.value
         return told
+
+    def first(self, code):
+        """The first code unit of each match, where it is told."""
+        told = ctypes.c_uint32(), ctypes.c_uint32()
+        for question, n in zip((FIRST_TYPE, FIRST), told):
+            self.call("pattern_info")(code, question, ctypes.byref(n))
+        return told[1].value if told[0].value == 1 else None
 
     def found(self, rc):
         pairs = 1 if rc == -2 else 8 if rc == 0 else max(rc, 0)
@@ -120,7 +130,7 @@ class Tally:
         row[0] += 1
         if not same:
             row[1] += 1
-            if row[1] <= 10:
+            if row[1] <= SHOWN:
                 print(what, *told)
 
 
@@ -174,6 +184,9 @@ def one_subject(r, stock, ours, tally, codes, told):
         tally.add("limit", True)
     else:
         tally.add("partial match" if options & PARTIAL else "match", x == y, *told, x, y)
+        first = ours.first(codes[1])
+        if first is not None and y[0] >= 0:
+            tally.add("first code unit", subject[y[1][0] : y[1][0] + 1] == bytes((first,)), *told, first, y)
         if x == y and not options & PARTIAL:
             tally.add("mark", stock.mark() == ours.mark(), *told, stock.mark(), ours.mark())
     x, y = (lib.ends(code, subject, start, options) for lib, code in zip((stock, ours), codes))

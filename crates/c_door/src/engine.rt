@@ -12,6 +12,7 @@ ghost use Rattle.pcre2_api.specs.Substituted.{substituted};
 ghost use Rattle.c_door.specs.Telling.{IsTold, IsMark, ArePlaces, IsText, IsName, told_of, IsEnds, AreEnds, end_at};
 ghost use Rattle.c_door.specs.Telling.{IsReplaced};
 
+use crate::limits::limited_ends;
 use crate::texts::{put, put_mark, put_text};
 use crate::told::{
     EndsAnswer, Hit, Named, Pair, SubstAnswer, Told, ends_answer, pair_of, subst_answer, told_of,
@@ -126,24 +127,26 @@ impl Engine {
         Ok(hit_of(&found, mark))
     }
 
-    /// Looks for all ends of a match, and writes as many as there is room for.
+    /// Looks for all ends of a match that begins before the limit or there, and writes as many as
+    /// there is room for.
     pub(crate) fn find_ends(
         &self,
         alloc: Global,
         subject: &[u8],
         start: usize,
         options: &MatchOptions,
+        limit: u64,
         ends: &mut [u64],
     ) -> EndsAnswer
         requires short { length subject.now < 4294967295 }
         ensures { IsEnds
             (search_of self.now.code.value options.now subject.now start passed_over)
-            result ends.new }
+            limit result ends.new }
     {
         let mut lists = Lists::new(alloc);
         let told = all_ends(alloc, &self.code, subject, start, options, &mut lists);
         write_ends(&told, ends);
-        ends_answer(&told)
+        ends_answer(&limited_ends(limit, told))
     }
 
     /// Replaces matches, and writes as much of the text as there is room for.
