@@ -1,5 +1,6 @@
 //! The scan of an input, line by line.
-ghost use Rattle.std.specs.Prelude.{◌≡◌, ◌≢◌, ℕ, List, ◌<◌, ◌≤◌, ◌+◌, ◌^◌, ◌||◌, ◌&&◌, true, false, [], length};
+ghost use Rattle.std.specs.Prelude.{◌≡◌, ◌≢◌, ℕ, List, ◌<◌, ◌≤◌, ◌+◌, ◌^◌, ◌||◌, ◌&&◌, true, false, [], ◌∷◌, length};
+ghost use Rattle.std.specs.Prelude.{slice_index};
 ghost use Rattle.std.specs.Prelude.{flat_map, if◌then◌else◌, IfOk, IfSome, OnOk, Ok, Err, None, IsTrue};
 ghost use Rattle.pcre_io.specs.Told.{Told, Kept};
 ghost use Rattle.line_feed.specs.Rows.{Row};
@@ -24,7 +25,8 @@ ghost use Rattle.grep_core.specs.Follows.{FollowsOne, Follows, past};
 ghost use Rattle.grep_core.specs.Sending.{SendsOn};
 ghost use Rattle.grep_core.specs.Work.{work_of, standing, progress, fed, position};
 ghost use Rattle.grep_watch.specs.Watched.{Watches};
-ghost use Rattle.grep_watch.specs.Filtered.{Sifts, Filters};
+ghost use Rattle.grep_watch.specs.Filtered.{Sifts, Filters, IsKnown};
+ghost use Rattle.grep_watch.specs.declared.filter.Known.TheVariants as knows;
 ghost use Rattle.pat_tree.specs.Pattern.{Pattern};
 ghost use Rattle.grep_args.specs.declared.plan.GrepPlan.{GrepPlan};
 ghost use Rattle.grep_core.specs.Underway.{IsReady, Origin, StandsAt, TakesPart, began_at};
@@ -39,7 +41,7 @@ ghost use Rattle.tool_io.specs.Printed.{printed};
 use grep_args::GrepPlan;
 use grep_match::{MatchList, Patterns, Verdict, Workspace, is_named, search_line};
 use grep_output::{EarlierLines, Ended, Show, State, Stop, write_error, write_line, write_matches};
-use grep_watch::{Filter, Sieve, Watch};
+use grep_watch::{Filter, Known, Sieve, Watch, ends_in_lf};
 use line_feed::{FeedError, Line, LineFeed};
 use pcre_io::{IoError, Memory, Sink, Source};
 use std::alloc::Global;
@@ -332,11 +334,63 @@ fn verdict_on(
     search_line(job.plan, job.patterns, line, work)
 }
 
+// Whether a line is known to have a match, and no more than the line is shown of it.
+fn is_enough(known: Known, show: Show) -> bool
+    ensures known { IsTrue result → known ≡ knows.Match }
+    ensures show { IsTrue result → show ≢ Parts }
+{
+    match show {
+        Show::Parts => false,
+        Show::Lines | Show::Nothing => known == Known::Match,
+    }
+}
+
+// Whether it is known to have none.
+fn is_without(known: Known) -> bool
+    ensures { IsTrue result → known ≡ knows.NoMatch }
+{
+    known == Known::NoMatch
+}
+
+// Takes a line that has a match, of which no more than the line is shown.
+fn take_found<O: Sink>(
+    job: &Job<'_>,
+    line: &Line<'_>,
+    out: &mut O,
+    found: &mut MatchList,
+    state: &mut State,
+    course: &mut Course,
+) -> Result<Next, Stop>
+    requires show { job.now.show ≢ Parts }
+    requires found { (o : Outcome) × (matches job.now.plan.now (patterns_in job.now.patterns.now)
+        line.now.bytes.now ≡ Ok (o ∷ [])) }
+    requires earlier { length course.old.earlier.rows < line.now.number }
+    requires context { course.old.context_to ≤ 2 ^ 62 }
+    requires offset { line.now.offset ≤ 2 ^ 40 }
+    requires number { line.now.number ≤ 2 ^ 41 }
+    requires selected { course.old.selected ≤ 2 ^ 62 }
+    requires errors { state.old.errors ≤ 20 }
+    requires limit { job.now.show ≡ Lines → course.old.earlier.limit ≡
+        job.now.plan.now.before_context }
+    requires short { IsShort course.old.earlier.longest (row_of line.now) }
+    ensures { (err : Kept) → TakesLine (work_of job.now) job.now.most
+        (tried_row job.now.plan.now (patterns_in job.now.patterns.now) (row_of line.now))
+        (progress course.old state.old (printed (O.tells out.old) err))
+        (progress course.new state.new (printed (O.tells out.new) err)) result }
+{
+    if !job.plan.invert_match {
+        found.clear();
+        return select(job, line, out, found, state, course);
+    }
+    pass(job, line, out, course)?;
+    Ok(Next::Line)
+}
+
 // Takes a line.
 fn take_line<O: Sink, E: Sink>(
     job: &Job<'_>,
     line: &Line<'_>,
-    is_quiet: bool,
+    known: Known,
     out: &mut O,
     err: &mut E,
     work: &mut Workspace,
@@ -344,8 +398,8 @@ fn take_line<O: Sink, E: Sink>(
     course: &mut Course,
 ) -> Result<Next, Stop>
     requires fits { length line.now.bytes.now < 4294967295 }
-    requires quiet { IsTrue is_quiet
-        → matches job.now.plan.now (patterns_in job.now.patterns.now) line.now.bytes.now ≡ Ok [] }
+    requires known { IsKnown job.now.plan.now (patterns_in job.now.patterns.now)
+        line.now.bytes.now known }
     requires earlier { length course.old.earlier.rows < line.now.number }
     requires context { course.old.context_to ≤ 2 ^ 62 }
     requires offset { line.now.offset ≤ 2 ^ 40 }
@@ -360,7 +414,10 @@ fn take_line<O: Sink, E: Sink>(
         (progress course.old state.old (printed (O.tells out.old) (E.tells err.old)))
         (progress course.new state.new (printed (O.tells out.new) (E.tells err.new))) result }
 {
-    let is_match = match verdict_on(job, line.bytes, is_quiet, work)? {
+    if is_enough(known, job.show) {
+        return take_found(job, line, out, &mut work.found, state, course);
+    }
+    let is_match = match verdict_on(job, line.bytes, is_without(known), work)? {
         Verdict::Match => true,
         Verdict::NoMatch => false,
         Verdict::Error(error) => {
@@ -581,6 +638,25 @@ fn take_ahead<O: Sink>(
     take_run(job, feed, out, state, course, watch)
 }
 
+// What is known of a line without a search for the patterns: by the filter, where lines end in LF, or as it is quiet.
+fn known_of(filter: &mut Option<Filter<'_>>, by_lf: bool, line: &[u8], is_quiet: bool) -> Known
+    requires { IsTrue by_lf → (k : ℕ) → k < length line.now → slice_index line.now k ≢ 10 }
+    ensures known { (plan : GrepPlan) (patterns : List Pattern)
+        → IfSome filter.old (Filters plan patterns)
+        → (IsTrue is_quiet → matches plan patterns line.now ≡ Ok [])
+        → IsKnown plan patterns line.now result }
+    ensures same { (plan : GrepPlan) (patterns : List Pattern)
+        → IfSome filter.old (Filters plan patterns) → IfSome filter.new (Filters plan patterns) }
+{
+    if is_quiet {
+        return Known::NoMatch;
+    }
+    match filter {
+        Some(filter) if by_lf => filter.tell(line),
+        _ => Known::Nothing,
+    }
+}
+
 // Takes the next line, where there is one.
 fn take_turn<S: Source, O: Sink, E: Sink>(
     job: &Job<'_>,
@@ -592,6 +668,7 @@ fn take_turn<S: Source, O: Sink, E: Sink>(
     state: &mut State,
     course: &mut Course,
     watch: &mut Watch,
+    filter: &mut Option<Filter<'_>>,
 ) -> Result<Turn, Stop>
     requires live { feed.old.phase ≢ Closed }
     requires max { feed.old.max ≤ 2 ^ 30 }
@@ -605,6 +682,10 @@ fn take_turn<S: Source, O: Sink, E: Sink>(
     requires longest { feed.old.max ≤ course.old.earlier.longest }
     requires watch { Watches job.now.plan.now (patterns_in job.now.patterns.now) watch.old
         feed.old.held }
+    requires filter { IfSome filter.old
+        (Filters job.now.plan.now (patterns_in job.now.patterns.now)) }
+    ensures filter { IfSome filter.new
+        (Filters job.now.plan.now (patterns_in job.now.patterns.now)) }
     ensures turns { Turns (work_of job.now) job.now.most
         (position (fed feed.old (S.tells source.old))
         (progress course.old state.old (printed (O.tells out.old) (E.tells err.old))))
@@ -614,11 +695,13 @@ fn take_turn<S: Source, O: Sink, E: Sink>(
         → Watches job.now.plan.now (patterns_in job.now.patterns.now) watch.new feed.new.held }
 {
     watch.look(feed);
+    let by_lf = ends_in_lf(feed);
     match feed.next(source) {
         Ok(Some(line)) => {
             let is_quiet = watch.passes(line.bytes);
             watch.leave(&line);
-            Ok(Turn::Took(take_line(job, &line, is_quiet, out, err, work, state, course)?))
+            let known = known_of(filter, by_lf, line.bytes, is_quiet);
+            Ok(Turn::Took(take_line(job, &line, known, out, err, work, state, course)?))
         }
         Ok(None) => Ok(Turn::Finished(Ended::End)),
         Err(e) => Ok(Turn::Finished(ended_by(e)?)),
@@ -746,7 +829,9 @@ fn take_until<S: Source, O: Sink, E: Sink>(
         pass_unseen(job, feed, course, watch);
         take_ahead(job, feed, out, state, course, watch)?;
         send_on(feed, source, out)?;
-        match take_turn(job, feed, source, out, err, work, state, course, watch)? {
+        match take_turn(
+            job, feed, source, out, err, work, state, course, watch, filter,
+        )? {
             Turn::Took(Next::Line) => {}
             Turn::Took(Next::Context) => return Ok(Came::Done(None)),
             Turn::Finished(ended) => return Ok(Came::Done(Some(ended))),

@@ -3,6 +3,7 @@ use Rattle.std.proofs.lemmas.Int.{to_z-of_z}
 use Rattle.line_feed.specs.Lines.{row_of}
 use Rattle.grep_match.specs.Compiled.{patterns_in}
 use Rattle.grep_match.specs.Matches.{tried_row}
+use Rattle.grep_watch.specs.Filtered.{IsKnown}
 use Rattle.grep_core.specs.Work.{work_of, progress}
 use Rattle.grep_core.specs.Turns.{TakesLine}
 use Rattle.grep_core.proofs.Taking.{IsTried, verdict-error, verdict-match, verdict-none, tried-listed}
@@ -10,6 +11,24 @@ use Rattle.grep_core.proofs.Taking.{selected-takes, passed-takes, passed-refused
 use Rattle.grep_core.proofs.scan.take_line.Goals.{in-Match, in-NoMatch}
 use Rattle.grep_core.proofs.scan.take_line.Goals as goal
 use Rattle.tool_io.specs.Printed.{printed}
+
+pub take_found-requires-clause-found : goal.take_found-requires-clause-found
+take_found-requires-clause-found g c =
+    let job = c.args.job.now in
+    subst (IsKnown job.plan.now (patterns_in job.patterns.now) c.args.line.now.bytes.now)
+    (c.is_enough.ensures.known c.if-is_enough.true) c.requires.known
+
+pub take_found-requires-clause-show : goal.take_found-requires-clause-show
+take_found-requires-clause-show g c = c.is_enough.ensures.show c.if-is_enough.true
+
+pub verdict_on-requires-clause-quiet : goal.verdict_on-requires-clause-quiet
+verdict_on-requires-clause-quiet g c = λ on.
+    let job = c.args.job.now in
+    subst (IsKnown job.plan.now (patterns_in job.patterns.now) c.args.line.now.bytes.now)
+    (c.is_without.ensures on) c.requires.known
+
+pub returns-then-is_enough : goal.returns-then-is_enough
+returns-then-is_enough g c = c.take_found.ensures (g.E.Sink.tells c.args.err.now)
 
 pub returns-in-Error : goal.returns-in-Error
 returns-in-Error g c =

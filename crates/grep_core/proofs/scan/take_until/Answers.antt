@@ -1,4 +1,4 @@
-use Rattle.std.proofs.Common.{rules, ◌≢◌, ◌≡◌, subst, ◌<◌, ◌^◌, length, Ok, Err, arith, refl, sym, ap, ◌∙◌}
+use Rattle.std.proofs.Common.{rules, ◌≢◌, ◌≡◌, subst, ◌<◌, ◌^◌, Ok, Err, arith, refl, sym, ap, ◌∙◌}
 use Rattle.grep_core.proofs.scan.take_until.Goals as goal
 use Rattle.grep_match.specs.Compiled.{patterns_in}
 use Rattle.grep_core.specs.declared.scan.Next.TheVariants.{Line}
@@ -107,6 +107,10 @@ take_turn-requires-clause-longest g c =
     let least = c.line.invariant.ready.longest in
     omega (arith, same, longest, least)
 
+pub take_turn-requires-clause-filter : goal.take_turn-requires-clause-filter
+take_turn-requires-clause-filter g c =
+    c.sift.ensures.same c.args.job.now.plan.now (patterns_in c.args.job.now.patterns.now) c.line.invariant.filter
+
 pub take_turn-requires-clause-limit : goal.take_turn-requires-clause-limit
 take_turn-requires-clause-limit g c = λ is. ahead-limit _ _ _ _ _ _
     (c.in_ok-take_ahead.ensures.taken (g.E.Sink.tells c.line.err)) ∙ c.line.invariant.ready.limit is
@@ -175,8 +179,7 @@ line-preserved g c =
             (c.in_ok-take_ahead.ensures.taken (g.E.Sink.tells c.line.err)) in
             omega (arith, max, same, least, longest);
       };
-      filter = c.sift.ensures.same c.args.job.now.plan.now (patterns_in c.args.job.now.patterns.now)
-          c.line.invariant.filter;
+      filter = c.in_ok-take_turn.ensures.filter;
       standing = λ from job stands. standing-line _ _ from.treated _ from.before _ _ _ _ row.row _ _ _ _ _ _ _ _ _ _
           (standing-sent _ _ from.treated _ from.before _ _ _ _ _ _ _ _ _
           (ahead-standing _ _ _ _ _ _ (c.in_ok-take_ahead.ensures.taken (g.E.Sink.tells c.line.err)) from.treated _
