@@ -10,9 +10,9 @@ use Rattle.pcre_io.specs.Told.{Kept}
 use Rattle.ordered_search.specs.PlaceAnswer.{Outcome}
 use Rattle.grep_output.specs.declared.ended.Stop.{Stop}
 use Rattle.grep_output.specs.declared.ended.Stop.TheVariants.{SinkFault, TooManyErrors, Memory}
-use Rattle.grep_core.specs.declared.scan.Course.{Course}
-use Rattle.grep_core.specs.declared.scan.Next.{Next}
-use Rattle.grep_core.specs.declared.scan.Next.TheVariants.{Line, Context}
+use Rattle.grep_core.specs.declared.lines.Course.{Course}
+use Rattle.grep_core.specs.declared.lines.Next.{Next}
+use Rattle.grep_core.specs.declared.lines.Next.TheVariants.{Line, Context}
 use Rattle.grep_match.specs.declared.search.Verdict.TheVariants.{Match, NoMatch, Error}
 use Rattle.grep_output.specs.declared.state.State.{State}
 use Rattle.grep_match.specs.Matches.{Matches, Tried, is_selected, has_error, selects}

@@ -16,12 +16,13 @@ ghost use Rattle.grep_core.specs.OneInput.{Greps, IsNew, is_skipped, TreatsTo, W
 ghost use Rattle.grep_core.specs.Work.{standing, work_of};
 ghost use Rattle.tool_io.specs.Printed.{printed};
 
-use crate::scan::{Course, Job, scan};
-use crate::state::GrepState;
+use crate::lines::{Course, Job};
+use crate::scan::scan;
+use crate::state::{GrepState, Scanner};
 use grep_args::{BinaryMode, GrepPlan};
-use grep_match::{Mode, Patterns, Workspace, line_end, mode_of};
+use grep_match::{Mode, Patterns, line_end, mode_of};
 use grep_output::{
-    EarlierLines, Ended, FileEnd, State, Stop, Treatment, most_selected, show_in, tells_binary,
+    EarlierLines, Ended, FileEnd, Stop, Treatment, most_selected, show_in, tells_binary,
     treatment_by, write_ended, write_summary, write_too_many,
 };
 use line_feed::LineFeed;
@@ -100,27 +101,25 @@ fn counted(total: u128, selected: u64) -> u128
 fn scan_as<S: Source, O: Sink, E: Sink>(
     job: &Job<'_>,
     treatment: Treatment,
-    feed: &mut LineFeed,
+    scanner: &mut Scanner,
     source: &mut S,
     out: &mut O,
     err: &mut E,
-    work: &mut Workspace,
-    state: &mut State,
 ) -> Result<FileEnd, Stop>
-    requires live { feed.old.phase ≢ Closed }
-    requires max { feed.old.max ≤ 2 ^ 30 }
-    requires longest { feed.old.max ≤ job.now.plan.now.max_buffer_size }
-    requires first { feed.old.number ≡ 0 }
-    requires near { length feed.old.held ≤ 65536 }
-    requires begun { feed.old.offset ≡ 0 }
-    requires errors { state.old.errors ≤ 20 }
-    requires total { state.old.total < 2 ^ 127 }
+    requires live { scanner.old.feed.phase ≢ Closed }
+    requires max { scanner.old.feed.max ≤ 2 ^ 30 }
+    requires longest { scanner.old.feed.max ≤ job.now.plan.now.max_buffer_size }
+    requires first { scanner.old.feed.number ≡ 0 }
+    requires near { length scanner.old.feed.held ≤ 65536 }
+    requires begun { scanner.old.feed.offset ≡ 0 }
+    requires errors { scanner.old.state.errors ≤ 20 }
+    requires total { scanner.old.state.total < 2 ^ 127 }
     ensures { (before : Told) → (treatment ≢ Skipped
-        → IsJob job.now.plan.now treatment job.now.show job.now.most feed.old)
-        → Stood job.now.plan.now treatment before (S.tells source.old) feed.old []
+        → IsJob job.now.plan.now treatment job.now.show job.now.most scanner.old.feed)
+        → Stood job.now.plan.now treatment before (S.tells source.old) scanner.old.feed []
         → ScansAs (work_of job.now) treatment
-        (standing before state.old (printed (O.tells out.old) (E.tells err.old)))
-        (standing (S.tells source.new) state.new
+        (standing before scanner.old.state (printed (O.tells out.old) (E.tells err.old)))
+        (standing (S.tells source.new) scanner.new.state
         (printed (O.tells out.new) (E.tells err.new))) result }
 {
     if is_skipped(treatment) {
@@ -138,9 +137,9 @@ fn scan_as<S: Source, O: Sink, E: Sink>(
             job.plan.max_buffer_size as usize,
         )?,
     };
-    let total = state.total;
-    let ended = scan(job, feed, source, out, err, work, state, &mut course);
-    state.total = counted(total, course.selected);
+    let total = scanner.state.total;
+    let ended = scan(job, scanner, source, out, err, &mut course);
+    scanner.state.total = counted(total, course.selected);
     let ended = ended?;
     Ok(FileEnd {
         selected: course.selected,
@@ -196,9 +195,12 @@ pub fn grep_file<S: Source, O: Sink, E: Sink>(
         result }
 {
     let kind = line_end(plan);
-    state.feed.restart(kind, plan.max_buffer_size as usize);
+    state
+        .scanner
+        .feed
+        .restart(kind, plan.max_buffer_size as usize);
     let mode = mode_of(plan);
-    let treatment = treatment_of(plan, mode, &mut state.feed, source)?;
+    let treatment = treatment_of(plan, mode, &mut state.scanner.feed, source)?;
     let is_told = tells_binary(treatment, mode);
     let job = Job {
         alloc: state.alloc,
@@ -208,16 +210,7 @@ pub fn grep_file<S: Source, O: Sink, E: Sink>(
         show: show_in(is_told, mode),
         most: most_selected(is_told, mode, plan.max_count),
     };
-    match scan_as(
-        &job,
-        treatment,
-        &mut state.feed,
-        source,
-        out,
-        err,
-        &mut state.work,
-        &mut state.state,
-    ) {
+    match scan_as(&job, treatment, &mut state.scanner, source, out, err) {
         Ok(end) => {
             write_end(&job, mode, is_told, end, out, err)?;
             Ok(end)

@@ -2,6 +2,8 @@
 #![tactic(auto)]
 
 mod file;
+mod lines;
+mod quiet;
 mod scan;
 mod state;
 

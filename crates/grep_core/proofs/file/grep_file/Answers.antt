@@ -13,7 +13,7 @@ use Rattle.tool_io.specs.Printed.{printed}
 -- what each way after the scan knows of it
 scanned : (g : given.Over) (c : After-scan_as g) → Scanned c.args.plan.now (patterns_in c.args.patterns.now)
     c.args.name.now c.args.state.now c.in_ok-treatment.treatment c.mode_of-mode.result c.tells_binary-is_told.result
-    (g.S.Source.tells c.args.source.now) (g.S.Source.tells c.scan_as.new.source) c.scan_as.new.state
+    (g.S.Source.tells c.args.source.now) (g.S.Source.tells c.scan_as.new.source) c.scan_as.new.scanner.state
     (printed (g.O.Sink.tells c.args.out.now) (g.E.Sink.tells c.args.err.now))
     (printed (g.O.Sink.tells c.scan_as.new.out) (g.E.Sink.tells c.scan_as.new.err)) c.scan_as.result
 scanned g c =
@@ -23,7 +23,7 @@ scanned g c =
       told_is = c.tells_binary-is_told.ensures;
       shows = c.show_in.result;
       shows_is = c.show_in.ensures;
-      state = c.state.inside.state;
+      state = c.state.inside.scanner.state;
       state_is = c.state.view_is;
       few = c.requires.errors;
       some = c.requires.most;

@@ -23,7 +23,7 @@ take_until-requires-clause-ready g c = record {
         selected = omega arith;
         errors = c.requires.errors;
       };
-  watch = c.new-watch.ensures c.args.feed.now.held;
+  watch = c.new.ensures c.args.scanner.now.feed.held;
   limit = λ is. c.requires.limit;
 }
 
@@ -35,9 +35,9 @@ returns-in_err-ended-clause-taken g c = λ before treated job stood.
     let from : Origin = record {
       treated = treated;
       before = before;
-      feed = c.args.feed.now;
+      feed = c.args.scanner.now.feed;
       course = c.args.course.now;
-      state = c.args.state.now;
+      state = c.args.scanner.now.state;
       out = out;
       err = err;
     } in
@@ -45,9 +45,9 @@ returns-in_err-ended-clause-taken g c = λ before treated job stood.
     let same : c.from_residual.result ≡ Err stop = search rules in
     subst
     (TakesAll (work_of job_is) job_is.most treated
-    (position (fed c.args.feed.now before) (progress c.args.course.now c.args.state.now (printed out err)))
-    (position (fed c.take_until.new.feed (g.S.Source.tells c.take_until.new.source))
-    (progress c.take_until.new.course c.take_until.new.state
+    (position (fed c.args.scanner.now.feed before) (progress c.args.course.now c.args.scanner.now.state (printed out err)))
+    (position (fed c.take_until.new.scanner.feed (g.S.Source.tells c.take_until.new.source))
+    (progress c.take_until.new.course c.take_until.new.scanner.state
     (printed (g.O.Sink.tells c.take_until.new.out) (g.E.Sink.tells c.take_until.new.err)))))
     (sym same)
     (c.in_err-ended.ensures.taken from job
@@ -61,9 +61,9 @@ returns-in-Done-clause-taken g c = λ before treated job stood.
     let from : Origin = record {
       treated = treated;
       before = before;
-      feed = c.args.feed.now;
+      feed = c.args.scanner.now.feed;
       course = c.args.course.now;
-      state = c.args.state.now;
+      state = c.args.scanner.now.state;
       out = out;
       err = err;
     } in
@@ -78,9 +78,9 @@ returns-clause-taken g c = λ before treated job stood.
     let from : Origin = record {
       treated = treated;
       before = before;
-      feed = c.args.feed.now;
+      feed = c.args.scanner.now.feed;
       course = c.args.course.now;
-      state = c.args.state.now;
+      state = c.args.scanner.now.state;
       out = out;
       err = err;
     } in

@@ -10,7 +10,7 @@ use Rattle.grep_core.proofs.scan.take_turn.Goals as goal
 
 pub known_of-known-requires : goal.known_of-known-requires
 known_of-known-requires g c = λ on.
-    let f = c.args.feed.now in
+    let f = c.args.scanner.now.feed in
     let new = c.next.follows.lender-at-none in
     let line = c.in-Ok-Some.line in
     let now = g.S.Source.tells c.args.source.now in
@@ -26,7 +26,7 @@ take_line-requires-clause-known g c =
     c.requires.filter (λ quiet.
     let plan = c.args.job.now.plan.now in
     let patterns = patterns_in c.args.job.now.patterns.now in
-    let f = c.args.feed.now in
+    let f = c.args.scanner.now.feed in
     let new = c.next.follows.lender-at-none in
     let line = c.in-Ok-Some.line in
     let now = g.S.Source.tells c.args.source.now in
@@ -42,7 +42,7 @@ pub returns-in_ok-take_line-in-Ok-Some-clause-watch : goal.returns-in_ok-take_li
 returns-in_ok-take_line-in-Ok-Some-clause-watch g c = λ next is.
     let plan = c.args.job.now.plan.now in
     let patterns = patterns_in c.args.job.now.patterns.now in
-    let f = c.args.feed.now in
+    let f = c.args.scanner.now.feed in
     let new = c.next.follows.lender-at-none in
     let line = c.in-Ok-Some.line in
     let now = g.S.Source.tells c.args.source.now in
@@ -54,7 +54,7 @@ returns-in_ok-take_line-in-Ok-Some-clause-watch g c = λ next is.
 
 pub take_line-requires-clause-short : goal.take_line-requires-clause-short
 take_line-requires-clause-short g c =
-    let f = c.args.feed.now in
+    let f = c.args.scanner.now.feed in
     let new = c.next.follows.lender-at-none in
     let now = g.S.Source.tells c.args.source.now in
     let later = g.S.Source.tells c.next.new.source in
