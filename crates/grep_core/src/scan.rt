@@ -28,6 +28,7 @@ use crate::lines::{Course, Job, Next, take_line};
 use crate::quiet::{pass_unseen, take_ahead};
 use crate::state::Scanner;
 use grep_args::GrepPlan;
+use grep_match::Patterns;
 use grep_output::{Ended, Show, Stop, write_line};
 use grep_watch::{Filter, Known, Sieve, Watch, ends_in_lf};
 use line_feed::{FeedError, LineFeed};
@@ -58,7 +59,10 @@ struct Part<'a> {
 }
 
 // So many lines are taken before a filter is made, since that takes as long as the scan of some: most files have fewer.
-const LATE: u64 = 20_000;
+const LATE: u64 = 2_000;
+
+// However many patterns there are, at least so many lines are.
+const SOON: u64 = 64;
 
 // How a scan ends where the feed gives no line.
 fn ended_by(e: FeedError) -> Result<Ended, Stop>
@@ -332,6 +336,15 @@ fn take_rest<S: Source, O: Sink, E: Sink>(
     }
 }
 
+// How many lines are taken before a filter is made: fewer where each line is searched for many patterns.
+fn late(watch: &Watch, patterns: &Patterns) -> u64 {
+    if watch.needed.is_some() {
+        return LATE;
+    }
+    let many = patterns.codes().len() as u64;
+    (LATE / many.max(1)).max(SOON)
+}
+
 // Takes lines up to the last one that may be selected, or to the end. Says how the scan ends where it ends there.
 fn take_lines<S: Source, O: Sink, E: Sink>(
     job: &Job<'_>,
@@ -361,10 +374,12 @@ fn take_lines<S: Source, O: Sink, E: Sink>(
         (progress course.new scanner.new.state (printed (O.tells out.new) (E.tells err.new))))
         result }
 {
+    let watch = Watch::new(job.plan, job.patterns);
+    let until = late(&watch, job.patterns);
     let mut part = Part {
-        watch: Watch::new(job.plan, job.patterns),
+        watch,
         filter: None,
-        until: LATE,
+        until,
     };
     match take_until(job, scanner, source, out, err, course, &mut part)? {
         Came::Done(ended) => return Ok(ended),

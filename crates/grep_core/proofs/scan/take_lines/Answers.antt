@@ -23,7 +23,7 @@ take_until-requires-clause-ready g c = record {
         selected = omega arith;
         errors = c.requires.errors;
       };
-  watch = c.new.ensures c.args.scanner.now.feed.held;
+  watch = c.new-watch.ensures c.args.scanner.now.feed.held;
   limit = λ is. c.requires.limit;
 }
 
