@@ -16,7 +16,7 @@ ghost use Rattle.grep_core.specs.Follows.{FollowsOne, Follows, past};
 ghost use Rattle.grep_core.specs.Sending.{SendsOn};
 ghost use Rattle.grep_core.specs.Work.{work_of, standing, progress, fed, position};
 ghost use Rattle.grep_watch.specs.Watched.{Watches};
-ghost use Rattle.grep_watch.specs.Filtered.{Sifts, Filters, IsKnown};
+ghost use Rattle.grep_watch.specs.Filtered.{Filters, IsKnown};
 ghost use Rattle.pat_tree.specs.Pattern.{Pattern};
 ghost use Rattle.grep_args.specs.declared.plan.GrepPlan.{GrepPlan};
 ghost use Rattle.grep_core.specs.Underway.{IsReady, Origin, StandsAt, TakesPart, began_at};
@@ -24,6 +24,7 @@ ghost use Rattle.grep_output.specs.LittlePast.{bytes_in};
 ghost use Rattle.grep_core.specs.WholeScans.{Stood, IsJob, ScansInput, TakesAll};
 ghost use Rattle.tool_io.specs.Printed.{printed};
 
+use crate::filters::filter_by;
 use crate::lines::{Course, Job, Next, take_line};
 use crate::quiet::{pass_unseen, take_ahead};
 use crate::state::Scanner;
@@ -33,7 +34,6 @@ use grep_output::{Ended, Show, Stop, write_line};
 use grep_watch::{Filter, Known, Sieve, Watch, ends_in_lf};
 use line_feed::{FeedError, LineFeed};
 use pcre_io::{Sink, Source};
-use std::alloc::Global;
 
 /// What a turn of a scan comes to.
 enum Turn {
@@ -225,17 +225,6 @@ fn sift(part: &mut Part<'_>, feed: &LineFeed)
     }
 }
 
-// The filter of a sieve, where there is one and memory is there.
-fn filter_by(alloc: Global, sieve: &Option<Sieve>) -> Option<Filter<'_>>
-    ensures { (plan : GrepPlan) (patterns : List Pattern)
-        → IfSome sieve.now (Sifts plan patterns) → IfSome result (Filters plan patterns) }
-{
-    match sieve {
-        Some(sieve) => Filter::new(alloc, sieve),
-        None => None,
-    }
-}
-
 // What is known of the lines: under a filter it alone tells of them.
 fn watch_under(filter: &Option<Filter<'_>>, watch: Watch) -> Watch
     ensures { (plan : GrepPlan) (patterns : List Pattern) (held : List ℕ)
@@ -345,6 +334,28 @@ fn late(watch: &Watch, patterns: &Patterns) -> u64 {
     (LATE / many.max(1)).max(SOON)
 }
 
+// What the lines of an input are begun by: a filter that is at hand, or the first of them without any.
+fn first_part<'a>(job: &Job<'_>, filter: Option<Filter<'a>>) -> Part<'a>
+    ensures watch { (held : List ℕ)
+        → Watches job.now.plan.now (patterns_in job.now.patterns.now) result.watch held }
+    ensures filter { result.filter ≡ filter }
+{
+    if filter.is_some() {
+        return Part {
+            watch: Watch::blank(),
+            filter,
+            until: u64::MAX,
+        };
+    }
+    let watch = Watch::new(job.plan, job.patterns);
+    let until = late(&watch, job.patterns);
+    Part {
+        watch,
+        filter,
+        until,
+    }
+}
+
 // Takes lines up to the last one that may be selected, or to the end. Says how the scan ends where it ends there.
 fn take_lines<S: Source, O: Sink, E: Sink>(
     job: &Job<'_>,
@@ -353,6 +364,7 @@ fn take_lines<S: Source, O: Sink, E: Sink>(
     out: &mut O,
     err: &mut E,
     course: &mut Course,
+    filter: &mut Option<Filter<'_>>,
 ) -> Result<Option<Ended>, Stop>
     requires live { scanner.old.feed.phase ≢ Closed }
     requires max { scanner.old.feed.max ≤ 2 ^ 30 }
@@ -363,6 +375,10 @@ fn take_lines<S: Source, O: Sink, E: Sink>(
     requires earlier { course.old.earlier.rows ≡ [] }
     requires limit { course.old.earlier.limit ≡ job.now.plan.now.before_context }
     requires longest { scanner.old.feed.max ≤ course.old.earlier.longest }
+    requires filter { IfSome filter.old
+        (Filters job.now.plan.now (patterns_in job.now.patterns.now)) }
+    ensures filter { IfSome filter.new
+        (Filters job.now.plan.now (patterns_in job.now.patterns.now)) }
     ensures live { result ≡ Ok None → scanner.new.feed.phase ≢ Closed }
     ensures taken { (before : Told) (treated : Treatment)
         → IsJob job.now.plan.now treated job.now.show job.now.most scanner.old.feed
@@ -374,21 +390,22 @@ fn take_lines<S: Source, O: Sink, E: Sink>(
         (progress course.new scanner.new.state (printed (O.tells out.new) (E.tells err.new))))
         result }
 {
-    let watch = Watch::new(job.plan, job.patterns);
-    let until = late(&watch, job.patterns);
-    let mut part = Part {
+    let mut part = first_part(job, filter.take());
+    let came = take_until(job, scanner, source, out, err, course, &mut part)?;
+    let Part {
         watch,
-        filter: None,
-        until,
-    };
-    match take_until(job, scanner, source, out, err, course, &mut part)? {
-        Came::Done(ended) => return Ok(ended),
-        Came::Far => {}
+        filter: used,
+        ..
+    } = part;
+    *filter = used;
+    match came {
+        Came::Done(ended) => Ok(ended),
+        Came::Far => take_rest(job, scanner, source, out, err, course, watch),
     }
-    take_rest(job, scanner, source, out, err, course, part.watch)
 }
 
-/// Scans the lines of an input, and writes what is shown of them.
+/// Scans the lines of an input, and writes what is shown of them. A filter that is handed in tells of lines from the
+/// first one on.
 pub fn scan<S: Source, O: Sink, E: Sink>(
     job: &Job<'_>,
     scanner: &mut Scanner,
@@ -396,6 +413,7 @@ pub fn scan<S: Source, O: Sink, E: Sink>(
     out: &mut O,
     err: &mut E,
     course: &mut Course,
+    filter: &mut Option<Filter<'_>>,
 ) -> Result<Ended, Stop>
     requires live { scanner.old.feed.phase ≢ Closed }
     requires max { scanner.old.feed.max ≤ 2 ^ 30 }
@@ -406,9 +424,13 @@ pub fn scan<S: Source, O: Sink, E: Sink>(
     requires earlier { course.old.earlier.rows ≡ [] }
     requires limit { course.old.earlier.limit ≡ job.now.plan.now.before_context }
     requires longest { scanner.old.feed.max ≤ course.old.earlier.longest }
+    requires filter { IfSome filter.old
+        (Filters job.now.plan.now (patterns_in job.now.patterns.now)) }
+    ensures filter { IfSome filter.new
+        (Filters job.now.plan.now (patterns_in job.now.patterns.now)) }
     // For each state of the source from which the feed came here without giving a line, and where the job is made for
     // the input, this is the scan of the input that the source stands for.
-    ensures { (before : Told) (treated : Treatment)
+    ensures scans { (before : Told) (treated : Treatment)
         → IsJob job.now.plan.now treated job.now.show job.now.most scanner.old.feed
         → Stood job.now.plan.now treated before (S.tells source.old) scanner.old.feed []
         → ScansInput (work_of job.now) treated
@@ -416,7 +438,7 @@ pub fn scan<S: Source, O: Sink, E: Sink>(
         (standing (S.tells source.new) scanner.new.state
         (printed (O.tells out.new) (E.tells err.new))) course.new.selected result }
 {
-    match take_lines(job, scanner, source, out, err, course)? {
+    match take_lines(job, scanner, source, out, err, course, filter)? {
         Some(ended) => Ok(ended),
         None => follow(job, &mut scanner.feed, source, out),
     }
