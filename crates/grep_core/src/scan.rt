@@ -1,7 +1,7 @@
 //! The scan of an input, line by line.
 ghost use Rattle.std.specs.Prelude.{◌≡◌, ◌≢◌, ℕ, List, ◌<◌, ◌≤◌, ◌^◌, [], length};
 ghost use Rattle.std.specs.Prelude.{slice_index};
-ghost use Rattle.std.specs.Prelude.{IfSome, Ok, None, IsTrue};
+ghost use Rattle.std.specs.Prelude.{IfSome, OnOk, Ok, None, IsTrue};
 ghost use Rattle.pcre_io.specs.Told.{Told};
 ghost use Rattle.line_feed.specs.Rows.{Row};
 ghost use Rattle.line_feed.specs.declared.phase.Phase.TheVariants.{Closed};
@@ -250,6 +250,8 @@ fn take_until<S: Source, O: Sink, E: Sink>(
         part.old.watch }
     requires filter { IfSome part.old.filter
         (Filters job.now.plan.now (patterns_in job.now.patterns.now)) }
+    ensures filter { OnOk result (IfSome part.new.filter
+        (Filters job.now.plan.now (patterns_in job.now.patterns.now))) }
     ensures ready { result ≡ Ok Came.Far
         → IsReady job.now scanner.new.feed course.new scanner.new.state part.new.watch }
     ensures far { result ≡ Ok Came.Far → part.old.until ≤ scanner.new.feed.number }
@@ -392,15 +394,10 @@ fn take_lines<S: Source, O: Sink, E: Sink>(
 {
     let mut part = first_part(job, filter.take());
     let came = take_until(job, scanner, source, out, err, course, &mut part)?;
-    let Part {
-        watch,
-        filter: used,
-        ..
-    } = part;
-    *filter = used;
+    *filter = part.filter;
     match came {
         Came::Done(ended) => Ok(ended),
-        Came::Far => take_rest(job, scanner, source, out, err, course, watch),
+        Came::Far => take_rest(job, scanner, source, out, err, course, part.watch),
     }
 }
 
