@@ -11,7 +11,7 @@ use grep_watch::{Filter, Sieve, Watch};
 use std::alloc::Global;
 
 // From so many inputs on a filter is made before the first of them, since it serves all of them.
-const MANY: usize = 32;
+const MANY: usize = 64;
 
 /// The sieve of a plan's patterns for so many inputs. None for a few of them, since it takes as long as the scan of some
 /// lines, where none is known (`Sieve::new`), or for want of memory.
