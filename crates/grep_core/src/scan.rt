@@ -340,7 +340,7 @@ fn late(watch: &Watch, patterns: &Patterns) -> u64 {
 fn first_part<'a>(job: &Job<'_>, filter: Option<Filter<'a>>) -> Part<'a>
     ensures watch { (held : List ℕ)
         → Watches job.now.plan.now (patterns_in job.now.patterns.now) result.watch held }
-    ensures filter { result.filter ≡ filter }
+    ensures filter { result.filter ≡ filter.entry }
 {
     if filter.is_some() {
         return Part {
