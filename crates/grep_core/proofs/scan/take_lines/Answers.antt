@@ -1,4 +1,4 @@
-use Rattle.std.proofs.Common.{rules, ◌≡◌, length, Ok, Err, ap, sym, subst, arith}
+use Rattle.std.proofs.Common.{rules, ◌≡◌, length, Err, ap, sym, subst, arith}
 use Rattle.grep_core.specs.Work.{work_of, progress, fed, position}
 use Rattle.grep_core.specs.Underway.{Origin}
 use Rattle.grep_core.specs.WholeScans.{TakesAll}
