@@ -15,8 +15,8 @@ use Rattle.grep_output.specs.declared.shows.Show.{Show}
 use Rattle.grep_output.specs.declared.shows.Show.TheVariants as show
 use Rattle.grep_output.specs.declared.ended.Stop.{Stop}
 use Rattle.grep_output.specs.declared.ended.Stop.TheVariants.{SinkFault, TooManyErrors, Memory}
-use Rattle.grep_core.specs.declared.scan.Course.{Course}
-use Rattle.grep_core.specs.declared.scan.Next.TheVariants.{Line, Context}
+use Rattle.grep_core.specs.declared.lines.Course.{Course}
+use Rattle.grep_core.specs.declared.lines.Next.TheVariants.{Line, Context}
 use Rattle.grep_output.specs.declared.state.State.{State}
 use Rattle.grep_match.specs.Matches.{Matches, Tried, is_selected, has_error}
 use Rattle.grep_output.specs.Messages.{error_message}

@@ -28,8 +28,8 @@ use Rattle.grep_output.specs.Earlier.{EarlierRows, IsShort}
 use Rattle.grep_output.proofs.ReachRows.{last_after, last_last}
 use Rattle.grep_watch.specs.declared.watch.Watch.{Watch}
 use Rattle.grep_watch.specs.Watched.{Watches, ReachesQuiet, with_quiet}
-use Rattle.grep_core.specs.declared.scan.Course.{Course}
-use Rattle.grep_core.specs.declared.scan.Next.TheVariants.{Line}
+use Rattle.grep_core.specs.declared.lines.Course.{Course}
+use Rattle.grep_core.specs.declared.lines.Next.TheVariants.{Line}
 use Rattle.grep_core.specs.Turns.{course_of, Takes}
 use Rattle.grep_core.specs.Work.{Work, progress}
 use Rattle.grep_core.specs.Unseen.{KeepsUnmatched}

@@ -25,8 +25,8 @@ use Rattle.grep_output.specs.Earlier.{EarlierRows}
 use Rattle.grep_output.specs.Texts.{newline_of}
 use Rattle.grep_output.specs.Course as course
 use Rattle.grep_output.specs.Course.{line_as, begins_group, selected_out, course_after_selected, is_lines}
-use Rattle.grep_core.specs.declared.scan.Course.{Course}
-use Rattle.grep_core.specs.declared.scan.Next.TheVariants.{Line, Context}
+use Rattle.grep_core.specs.declared.lines.Course.{Course}
+use Rattle.grep_core.specs.declared.lines.Next.TheVariants.{Line, Context}
 use Rattle.grep_watch.specs.declared.watch.Watch.{Watch}
 use Rattle.grep_core.specs.Turns.{course_of, is_full, Halts, Takes}
 use Rattle.grep_core.specs.Work.{Work, Progress, progress}

@@ -12,8 +12,8 @@ use Rattle.grep_args.specs.declared.plan.GrepPlan.{GrepPlan}
 use Rattle.grep_output.specs.declared.shows.Show.{Show}
 use Rattle.grep_output.specs.declared.shows.Show.TheVariants as show
 use Rattle.grep_output.specs.declared.shows.Treatment.{Treatment}
-use Rattle.grep_core.specs.declared.scan.Course.{Course}
-use Rattle.grep_core.specs.declared.scan.Next.{Next}
+use Rattle.grep_core.specs.declared.lines.Course.{Course}
+use Rattle.grep_core.specs.declared.lines.Next.{Next}
 use Rattle.grep_output.specs.declared.state.State.{State}
 use Rattle.grep_match.specs.Matches.{Tried, is_selected}
 use Rattle.grep_output.specs.InputText.{shown_out, shows_group}

@@ -7,7 +7,7 @@ use Rattle.grep_output.specs.declared.shows.Treatment.{Treatment}
 use Rattle.grep_output.specs.declared.ended.Ended.{Ended}
 use Rattle.grep_output.specs.declared.ended.Stop.{Stop}
 use Rattle.grep_output.specs.declared.ended.Stop.TheVariants.{SinkFault, TooManyErrors, Memory}
-use Rattle.grep_core.specs.declared.scan.Course.{Course}
+use Rattle.grep_core.specs.declared.lines.Course.{Course}
 use Rattle.grep_output.specs.declared.state.State.{State}
 use Rattle.grep_match.specs.Matches.{Tried, is_selected}
 use Rattle.grep_output.specs.Lines.{lines}

@@ -1,7 +1,7 @@
 -- The lines that a scan has taken so far, and what one more does.
 use Rattle.std.proofs.Common.{◌≡◌, ℕ, ◌+◌, ◌<◌, ◌≤◌, ◌||◌, ◌&&◌, Bool, true, false, cond, List, [], ◌∷◌, ◌++◌}
 use Rattle.std.proofs.Common.{length, Option, None, Some, refl, sym, ap, subst, ◌∙◌, ⊎_elim, arith}
-use Rattle.std.specs.Prelude.{flat_map, map, nat_le}
+use Rattle.std.specs.Prelude.{flat_map, nat_le}
 use Rattle.std.proofs.lemmas.Bool.{cases_Bool, cases_lt, cond-true, cond-false, le-leb, leb-true}
 use Rattle.std.proofs.lemmas.List.{map-append}
 use Rattle.pcre_io.specs.Told.{Told, Kept}
@@ -12,9 +12,9 @@ use Rattle.line_feed.proofs.Given.{kind-gives, max-gives}
 use Rattle.grep_args.specs.declared.plan.GrepPlan.{GrepPlan}
 use Rattle.pat_tree.specs.Pattern.{Pattern}
 use Rattle.grep_output.specs.declared.shows.Treatment.{Treatment}
-use Rattle.grep_core.specs.declared.scan.Course.{Course}
-use Rattle.grep_core.specs.declared.scan.Next.{Next}
-use Rattle.grep_core.specs.declared.scan.Next.TheVariants.{Line, Context}
+use Rattle.grep_core.specs.declared.lines.Course.{Course}
+use Rattle.grep_core.specs.declared.lines.Next.{Next}
+use Rattle.grep_core.specs.declared.lines.Next.TheVariants.{Line, Context}
 use Rattle.grep_output.specs.declared.state.State.{State}
 use Rattle.grep_match.specs.PatternTexts.{line_end}
 use Rattle.grep_match.specs.Matches.{Tried, tried_row, is_selected, has_error}

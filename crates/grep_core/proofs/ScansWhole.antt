@@ -34,7 +34,7 @@ use Rattle.tool_io.specs.Prints.{Wrote, Breaks}
 use Rattle.tool_io.specs.Writes.{WritesAll}
 use Rattle.grep_core.specs.Turns.{Halts}
 use Rattle.grep_output.specs.Refused.{GrewBy}
-use Rattle.grep_core.specs.declared.scan.Course.{Course}
+use Rattle.grep_core.specs.declared.lines.Course.{Course}
 use Rattle.grep_core.specs.Work.{Work, progress, fed, position, standing}
 use Rattle.grep_core.specs.WholeScans.{Scans, StopsIn, StopsSoon, ScansTo, ScansInput, scan_of, left_by, IsJob, Pauses}
 use Rattle.grep_core.specs.Follows.{past, FollowsAll, FollowsSome, FollowsPart, Follows}

@@ -19,9 +19,9 @@ use denote.Enum.Bare.{sameb}
 use Rattle.grep_output.specs.contracts.shows.Show.{the_type}
 use Rattle.grep_output.specs.declared.shows.Show.{Show}
 use Rattle.grep_output.specs.declared.shows.Show.TheVariants as show
-use Rattle.grep_core.specs.declared.scan.Course.{Course}
-use Rattle.grep_core.specs.declared.scan.Next.{Next}
-use Rattle.grep_core.specs.declared.scan.Next.TheVariants.{Line, Context}
+use Rattle.grep_core.specs.declared.lines.Course.{Course}
+use Rattle.grep_core.specs.declared.lines.Next.{Next}
+use Rattle.grep_core.specs.declared.lines.Next.TheVariants.{Line, Context}
 use Rattle.grep_output.specs.declared.state.State.{State}
 use Rattle.grep_output.specs.Earlier.{EarlierRows}
 use Rattle.grep_output.specs.Course.{is_lines, selected_out}

@@ -1,5 +1,6 @@
 -- A line without a match error: it is selected or passed.
-use Rattle.std.proofs.Common.{◌≡◌, ℕ, ◌+◌, ◌≤◌, ◌==◌, Bool, true, false, not, ◌||◌, ◌&&◌, List, [], ◌∷◌, Option}
+use Rattle.std.proofs.Common.{◌≡◌, ◌≢◌, ◌++◌, flat_map, ℕ, ◌+◌, ◌≤◌, ◌==◌, Bool, true, false, not}
+use Rattle.std.proofs.Common.{◌||◌, ◌&&◌, List, [], ◌∷◌, Option}
 use Rattle.std.proofs.Common.{Result, Ok, Err, ℤ, refl, sym, ap, subst, ◌∙◌, arith, inl, if◌then◌else◌}
 use Rattle.std.proofs.lemmas.Bool.{cond-true, cond-false, false≢true}
 use Rattle.std.proofs.Math.Bool.{beq}
@@ -9,18 +10,23 @@ use Rattle.pcre_io.specs.Told.{Kept}
 use Rattle.ordered_search.specs.PlaceAnswer.{Outcome}
 use Rattle.grep_output.specs.declared.ended.Stop.{Stop}
 use Rattle.grep_output.specs.declared.ended.Stop.TheVariants.{SinkFault, TooManyErrors, Memory}
-use Rattle.grep_core.specs.declared.scan.Course.{Course}
-use Rattle.grep_core.specs.declared.scan.Next.{Next}
-use Rattle.grep_core.specs.declared.scan.Next.TheVariants.{Line, Context}
+use Rattle.grep_core.specs.declared.lines.Course.{Course}
+use Rattle.grep_core.specs.declared.lines.Next.{Next}
+use Rattle.grep_core.specs.declared.lines.Next.TheVariants.{Line, Context}
 use Rattle.grep_match.specs.declared.search.Verdict.TheVariants.{Match, NoMatch, Error}
 use Rattle.grep_output.specs.declared.state.State.{State}
 use Rattle.grep_match.specs.Matches.{Matches, Tried, is_selected, has_error, selects}
 use Rattle.grep_output.specs.Messages.{error_message}
-use Rattle.grep_output.specs.Course.{selected_out, passed_out, row_out, state_after_line, is_lines}
+use Rattle.line_feed.specs.Rows.{Row}
+use Rattle.grep_output.specs.declared.shows.Show.{Show}
+use Rattle.grep_output.specs.declared.shows.Show.TheVariants.{Lines, Parts, Nothing}
+use Rattle.grep_output.specs.Course.{selected_out, passed_out, row_out, state_after_line, is_lines, separator, line_as}
+use Rattle.grep_output.specs.Course.{course_after_selected}
 use Rattle.grep_match.specs.Found.{Listed, Lists, ListsMatches, IsVerdict}
 use Rattle.grep_core.specs.Turns.{course_of, Halts, Passes, PassesOn, Takes, TakesLine, Selects, is_last, is_full}
-use Rattle.grep_core.specs.Work.{Work, progress}
+use Rattle.grep_core.specs.Work.{Work, Progress, progress}
 use Rattle.tool_io.specs.Prints.{Breaks}
+use Rattle.tool_io.specs.Writes.{WritesAll}
 use Rattle.tool_io.proofs.Printing.{prefix-none}
 use Rattle.tool_io.specs.Printed.{printed}
 
@@ -170,6 +176,38 @@ module _ (work : Work) (most : Option ℕ) (t : Tried) (found : List Outcome) (i
   passed-refused c c_new s out_old out_new err stop not_selected halts =
       line-refused c c_new s s (passed_out work.plan work.name work.show (course_of c) t) out_old out_new err stop
       (sym (cond-false (is_selected work.plan t) _ _ not_selected)) halts.0 halts.1 refl
+
+-- Where no more than the line is shown it doesn't matter which its matches are.
+module _ (work : Work) (most : Option ℕ) (t u : Tried) (same : u.row ≡ t.row) (whole : work.show ≢ Parts) where
+  out-alike : (shown : Bool) (c : Course) → selected_out work.plan work.name work.show shown (course_of c) u
+      ≡ selected_out work.plan work.name work.show shown (course_of c) t
+  out-alike shown c = by_show work.show whole
+    where
+      by_show : (s : Show) → s ≢ Parts → selected_out work.plan work.name s shown (course_of c) u
+          ≡ selected_out work.plan work.name s shown (course_of c) t
+      by_show Lines h =
+          ap (λ (r : Row). separator work.plan work.name shown (course_of c) r.number
+          ++ flat_map (line_as work.plan work.name false) (course_of c).earlier
+          ++ line_as work.plan work.name true r) same
+      by_show Parts h = absurd (h refl)
+      by_show Nothing h = refl
+
+  pub selects-alike : (old new : Progress) (result : Result Next Stop) → Selects work most u old new result
+      → Selects work most t old new result
+  selects-alike old new (Ok next) sel = record {
+    wrote = subst (λ l. WritesAll l old.printed.out new.printed.out)
+        (out-alike old.state.has_shown old.course) sel.wrote;
+    stands = sel.stands ∙ ap (course_after_selected work.plan work.show (course_of old.course)) same;
+    limit = sel.limit;
+    longest = sel.longest;
+    state = sel.state;
+    answer = sel.answer;
+  }
+  selects-alike old new (Err stop) sel = (
+    subst (λ l. Halts l old.printed.out new.printed.out stop) (out-alike old.state.has_shown old.course) sel.0,
+    sel.1,
+    sel.2,
+  )
 
 -- whether a line is selected
 pub chosen : (b i : Bool) → not (beq b i) ≡ true → (if b then not i else i) ≡ true

@@ -15,8 +15,8 @@ use Rattle.grep_match.specs.Matches.{tried_row, matches}
 use Rattle.grep_output.specs.declared.shows.Treatment.{Treatment}
 use Rattle.grep_output.specs.declared.state.State.{State}
 use Rattle.grep_output.specs.Course as course
-use Rattle.grep_core.specs.declared.scan.Course.{Course}
-use Rattle.grep_core.specs.declared.scan.Next.TheVariants.{Line}
+use Rattle.grep_core.specs.declared.lines.Course.{Course}
+use Rattle.grep_core.specs.declared.lines.Next.TheVariants.{Line}
 use Rattle.grep_watch.specs.declared.watch.Watch.{Watch}
 use Rattle.grep_core.specs.Turns.{course_of, Takes}
 use Rattle.grep_core.specs.Work.{Work, progress}

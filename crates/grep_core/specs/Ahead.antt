@@ -7,7 +7,7 @@ use Rattle.line_feed.specs.Passes.{GivesAll}
 use Rattle.tool_io.specs.Writes.{WritesAll}
 use Rattle.grep_match.specs.Matches.{tried_row}
 use Rattle.grep_output.specs.declared.ended.Stop.{Stop}
-use Rattle.grep_core.specs.declared.scan.Next.TheVariants.{Line}
+use Rattle.grep_core.specs.declared.lines.Next.TheVariants.{Line}
 use Rattle.grep_core.specs.Work.{Work, Progress}
 use Rattle.grep_core.specs.Turns.{Halts, Takes}
 

@@ -12,6 +12,7 @@ pub use Rattle.grep_output.specs.Messages
 pub use Rattle.grep_output.specs.InputText
 pub use Rattle.grep_match.specs.pcre2_api as pcre2_api
 pub use Rattle.grep_match.specs as grep_match
+pub use Rattle.grep_watch.specs as grep_watch
 pub mod Work
 pub mod Turns
 pub mod FirstBytes

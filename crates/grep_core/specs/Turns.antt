@@ -13,9 +13,9 @@ use Rattle.grep_output.specs.declared.ended.Ended.{Ended}
 use Rattle.grep_output.specs.declared.ended.Ended.TheVariants as told
 use Rattle.grep_output.specs.declared.ended.Stop.{Stop}
 use Rattle.grep_output.specs.declared.ended.Stop.TheVariants.{SinkFault, TooManyErrors, Memory}
-use Rattle.grep_core.specs.declared.scan.Course.{Course}
-use Rattle.grep_core.specs.declared.scan.Next.{Next}
-use Rattle.grep_core.specs.declared.scan.Next.TheVariants.{Line, Context}
+use Rattle.grep_core.specs.declared.lines.Course.{Course}
+use Rattle.grep_core.specs.declared.lines.Next.{Next}
+use Rattle.grep_core.specs.declared.lines.Next.TheVariants.{Line, Context}
 use Rattle.grep_core.specs.declared.scan.Turn.{Turn}
 use Rattle.grep_core.specs.declared.scan.Turn.TheVariants.{Took, Finished}
 use Rattle.grep_core.specs.Work.{Work, Progress, Position}

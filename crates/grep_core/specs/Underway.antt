@@ -12,8 +12,8 @@ use Rattle.grep_output.specs.declared.state.State.{State}
 use Rattle.grep_output.specs.declared.ended.Stop.{Stop}
 use Rattle.grep_core.specs.declared.scan.Came.{Came}
 use Rattle.grep_core.specs.declared.scan.Came.TheVariants.{Far, Done}
-use Rattle.grep_core.specs.declared.scan.Course.{Course}
-use Rattle.grep_core.specs.declared.scan.Job.{Job}
+use Rattle.grep_core.specs.declared.lines.Course.{Course}
+use Rattle.grep_core.specs.declared.lines.Job.{Job}
 use Rattle.grep_core.specs.Work.{Work, Position, progress, fed, position}
 use Rattle.grep_match.specs.Matches.{Tried, tried_row, is_selected, has_error}
 use Rattle.grep_match.specs.PatternTexts.{line_end}

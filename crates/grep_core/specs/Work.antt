@@ -9,8 +9,8 @@ use Rattle.grep_match.specs.Compiled.{patterns_in}
 use Rattle.grep_output.specs.declared.shows.Show.{Show}
 use Rattle.grep_output.specs.declared.state.State.{State}
 use Rattle.tool_io.specs.Printed.{Printed}
-use Rattle.grep_core.specs.declared.scan.Course.{Course}
-use Rattle.grep_core.specs.declared.scan.Job.{Job}
+use Rattle.grep_core.specs.declared.lines.Course.{Course}
+use Rattle.grep_core.specs.declared.lines.Job.{Job}
 
 -- what is done with the lines of an input: the plan and the patterns by which they are searched, the
 -- name of the input, and what is shown of a selected line

@@ -1,5 +1,6 @@
 //! One input.
-ghost use Rattle.std.specs.Prelude.{◌≡◌, ◌≢◌, ◌+◌, ◌≤◌, ◌<◌, ◌^◌, [], length, nat_eq};
+ghost use Rattle.std.specs.Prelude.{◌≡◌, ◌≢◌, ◌+◌, ◌≤◌, ◌<◌, ◌^◌, [], length, nat_eq, IfSome};
+ghost use Rattle.grep_watch.specs.Filtered.{Filters};
 ghost use Rattle.std.specs.List.{list_any};
 ghost use Rattle.pcre_io.specs.Told.{Told};
 ghost use Rattle.line_feed.specs.declared.phase.Phase.TheVariants.{Closed};
@@ -16,14 +17,16 @@ ghost use Rattle.grep_core.specs.OneInput.{Greps, IsNew, is_skipped, TreatsTo, W
 ghost use Rattle.grep_core.specs.Work.{standing, work_of};
 ghost use Rattle.tool_io.specs.Printed.{printed};
 
-use crate::scan::{Course, Job, scan};
-use crate::state::GrepState;
+use crate::lines::{Course, Job};
+use crate::scan::scan;
+use crate::state::{GrepState, Scanner};
 use grep_args::{BinaryMode, GrepPlan};
-use grep_match::{Mode, Patterns, Workspace, line_end, mode_of};
+use grep_match::{Mode, Patterns, line_end, mode_of};
 use grep_output::{
-    EarlierLines, Ended, FileEnd, State, Stop, Treatment, most_selected, show_in, tells_binary,
+    EarlierLines, Ended, FileEnd, Stop, Treatment, most_selected, show_in, tells_binary,
     treatment_by, write_ended, write_summary, write_too_many,
 };
+use grep_watch::Filter;
 use line_feed::LineFeed;
 use pat_tree::Newline;
 use pcre_io::{IoError, Sink, Source};
@@ -100,27 +103,30 @@ fn counted(total: u128, selected: u64) -> u128
 fn scan_as<S: Source, O: Sink, E: Sink>(
     job: &Job<'_>,
     treatment: Treatment,
-    feed: &mut LineFeed,
+    scanner: &mut Scanner,
     source: &mut S,
     out: &mut O,
     err: &mut E,
-    work: &mut Workspace,
-    state: &mut State,
+    filter: &mut Option<Filter<'_>>,
 ) -> Result<FileEnd, Stop>
-    requires live { feed.old.phase ≢ Closed }
-    requires max { feed.old.max ≤ 2 ^ 30 }
-    requires longest { feed.old.max ≤ job.now.plan.now.max_buffer_size }
-    requires first { feed.old.number ≡ 0 }
-    requires near { length feed.old.held ≤ 65536 }
-    requires begun { feed.old.offset ≡ 0 }
-    requires errors { state.old.errors ≤ 20 }
-    requires total { state.old.total < 2 ^ 127 }
-    ensures { (before : Told) → (treatment ≢ Skipped
-        → IsJob job.now.plan.now treatment job.now.show job.now.most feed.old)
-        → Stood job.now.plan.now treatment before (S.tells source.old) feed.old []
+    requires live { scanner.old.feed.phase ≢ Closed }
+    requires max { scanner.old.feed.max ≤ 2 ^ 30 }
+    requires longest { scanner.old.feed.max ≤ job.now.plan.now.max_buffer_size }
+    requires first { scanner.old.feed.number ≡ 0 }
+    requires near { length scanner.old.feed.held ≤ 65536 }
+    requires begun { scanner.old.feed.offset ≡ 0 }
+    requires errors { scanner.old.state.errors ≤ 20 }
+    requires total { scanner.old.state.total < 2 ^ 127 }
+    requires filter { IfSome filter.old
+        (Filters job.now.plan.now (patterns_in job.now.patterns.now)) }
+    ensures filter { IfSome filter.new
+        (Filters job.now.plan.now (patterns_in job.now.patterns.now)) }
+    ensures scans { (before : Told) → (treatment ≢ Skipped
+        → IsJob job.now.plan.now treatment job.now.show job.now.most scanner.old.feed)
+        → Stood job.now.plan.now treatment before (S.tells source.old) scanner.old.feed []
         → ScansAs (work_of job.now) treatment
-        (standing before state.old (printed (O.tells out.old) (E.tells err.old)))
-        (standing (S.tells source.new) state.new
+        (standing before scanner.old.state (printed (O.tells out.old) (E.tells err.old)))
+        (standing (S.tells source.new) scanner.new.state
         (printed (O.tells out.new) (E.tells err.new))) result }
 {
     if is_skipped(treatment) {
@@ -138,9 +144,9 @@ fn scan_as<S: Source, O: Sink, E: Sink>(
             job.plan.max_buffer_size as usize,
         )?,
     };
-    let total = state.total;
-    let ended = scan(job, feed, source, out, err, work, state, &mut course);
-    state.total = counted(total, course.selected);
+    let total = scanner.state.total;
+    let ended = scan(job, scanner, source, out, err, &mut course, filter);
+    scanner.state.total = counted(total, course.selected);
     let ended = ended?;
     Ok(FileEnd {
         selected: course.selected,
@@ -165,6 +171,71 @@ fn write_end<O: Sink, E: Sink>(
     write_summary(out, job.plan, job.name, mode, is_told, end.selected)?;
     write_ended(err, job.plan.no_messages, job.name, end.ended)?;
     Ok(())
+}
+
+/// As `grep_file`, under a filter of the plan's patterns that is handed from one input to the next. Where there is none,
+/// one is made for an input of many lines alone.
+///
+/// # Errors
+///
+/// As those of `grep_file`.
+pub fn grep_file_by<S: Source, O: Sink, E: Sink>(
+    patterns: &Patterns,
+    plan: &GrepPlan,
+    name: &str,
+    source: &mut S,
+    out: &mut O,
+    err: &mut E,
+    state: &mut GrepState,
+    filter: &mut Option<Filter<'_>>,
+) -> Result<FileEnd, Stop>
+    requires max { (1 ≤ plan.now.max_buffer_size) × (plan.now.max_buffer_size ≤ 2 ^ 30) }
+    requires most { AtLeastOne plan.now.max_count }
+    requires errors { state.old.errors ≤ 20 }
+    requires total { state.old.total < 2 ^ 127 }
+    requires filter { IfSome filter.old (Filters plan.now (patterns_in patterns.now)) }
+    ensures filter { IfSome filter.new (Filters plan.now (patterns_in patterns.now)) }
+    ensures greps { Greps plan.now (patterns_in patterns.now) name.now
+        (standing (S.tells source.old) state.old (printed (O.tells out.old) (E.tells err.old)))
+        (standing (S.tells source.new) state.new (printed (O.tells out.new) (E.tells err.new)))
+        result }
+{
+    let kind = line_end(plan);
+    state
+        .scanner
+        .feed
+        .restart(kind, plan.max_buffer_size as usize);
+    let mode = mode_of(plan);
+    let treatment = treatment_of(plan, mode, &mut state.scanner.feed, source)?;
+    let is_told = tells_binary(treatment, mode);
+    let job = Job {
+        alloc: state.alloc,
+        plan,
+        patterns,
+        name,
+        show: show_in(is_told, mode),
+        most: most_selected(is_told, mode, plan.max_count),
+    };
+    match scan_as(
+        &job,
+        treatment,
+        &mut state.scanner,
+        source,
+        out,
+        err,
+        filter,
+    ) {
+        Ok(end) => {
+            write_end(&job, mode, is_told, end, out, err)?;
+            Ok(end)
+        }
+        Err(Stop::TooManyErrors) => {
+            write_too_many(err)?;
+            Err(Stop::TooManyErrors)
+        }
+        Err(Stop::SinkFault) => Err(Stop::SinkFault),
+        Err(Stop::Memory) => Err(Stop::Memory),
+    }
 }
 
 /// Writes what pcre2grep writes of an input of this name: its selected lines, or what the plan shows in place of them,
@@ -195,38 +266,6 @@ pub fn grep_file<S: Source, O: Sink, E: Sink>(
         (standing (S.tells source.new) state.new (printed (O.tells out.new) (E.tells err.new)))
         result }
 {
-    let kind = line_end(plan);
-    state.feed.restart(kind, plan.max_buffer_size as usize);
-    let mode = mode_of(plan);
-    let treatment = treatment_of(plan, mode, &mut state.feed, source)?;
-    let is_told = tells_binary(treatment, mode);
-    let job = Job {
-        alloc: state.alloc,
-        plan,
-        patterns,
-        name,
-        show: show_in(is_told, mode),
-        most: most_selected(is_told, mode, plan.max_count),
-    };
-    match scan_as(
-        &job,
-        treatment,
-        &mut state.feed,
-        source,
-        out,
-        err,
-        &mut state.work,
-        &mut state.state,
-    ) {
-        Ok(end) => {
-            write_end(&job, mode, is_told, end, out, err)?;
-            Ok(end)
-        }
-        Err(Stop::TooManyErrors) => {
-            write_too_many(err)?;
-            Err(Stop::TooManyErrors)
-        }
-        Err(Stop::SinkFault) => Err(Stop::SinkFault),
-        Err(Stop::Memory) => Err(Stop::Memory),
-    }
+    let mut none = None;
+    grep_file_by(patterns, plan, name, source, out, err, state, &mut none)
 }

@@ -9,13 +9,20 @@ use line_feed::LineFeed;
 use std::alloc::Global;
 use std::marker::Model;
 
-/// What one input leaves to the next, and the feed and the workspace of the searches, which keep their room.
+/// What scans one input after another: the feed of their lines and the workspace of the searches, which keep their room,
+/// and what the inputs so far leave.
+#[derive(Drop)]
+pub struct Scanner {
+    pub feed: LineFeed,
+    pub work: Workspace,
+    pub state: State,
+}
+
+/// What one input leaves to the next.
 #[derive(Drop)]
 pub struct GrepState {
     pub(crate) alloc: Global,
-    pub(crate) feed: LineFeed,
-    pub(crate) work: Workspace,
-    pub(crate) state: State,
+    pub(crate) scanner: Scanner,
 }
 
 impl Model for GrepState {
@@ -23,7 +30,7 @@ impl Model for GrepState {
 
     ghost Value = { State };
 
-    ghost view = { λ s. s.state };
+    ghost view = { λ s. s.scanner.state };
 }
 
 impl GrepState {
@@ -33,12 +40,14 @@ impl GrepState {
     {
         GrepState {
             alloc,
-            feed: LineFeed::new(alloc, EndKind::Lf, 1),
-            work: Workspace::new(alloc),
-            state: State {
-                errors: 0,
-                total: 0,
-                has_shown: false,
+            scanner: Scanner {
+                feed: LineFeed::new(alloc, EndKind::Lf, 1),
+                work: Workspace::new(alloc),
+                state: State {
+                    errors: 0,
+                    total: 0,
+                    has_shown: false,
+                },
             },
         }
     }
@@ -47,13 +56,13 @@ impl GrepState {
     pub fn errors(&self) -> u32
         ensures { result ≡ self.now.errors }
     {
-        self.state.errors
+        self.scanner.state.errors
     }
 
     /// How many lines were selected.
     pub fn total(&self) -> u128
         ensures { result ≡ self.now.total }
     {
-        self.state.total
+        self.scanner.state.total
     }
 }

@@ -1,23 +1,25 @@
 -- Lines before the first place at which a match of a filter's expression begins.
-use Rattle.std.proofs.Common.{◌≡◌, ◌≢◌, ◌∙◌, ℕ, zero, suc, ◌+◌, ◌-◌, ◌<◌, ◌≤◌, Bool, List, [], ◌∷◌, ◌++◌, length}
-use Rattle.std.proofs.Common.{take, Option, Some, None, Ok, option_map, IsSome, ◌⊎◌, inl, inr, refl, sym, ap, subst}
-use Rattle.std.proofs.Common.{arith, length-append}
-use Rattle.std.specs.Prelude.{slice_index, slice_get, IsTrue, IsUtf8}
+use Rattle.std.proofs.Common.{◌≡◌, ◌≢◌, ◌∙◌, ℕ, ◌+◌, ◌-◌, ◌<◌, ◌≤◌, Bool, List, [], ◌∷◌, ◌++◌, length}
+use Rattle.std.proofs.Common.{take, Option, Some, None, Ok, option_map, ◌⊎◌, inl, inr, refl, sym, ap, subst}
+use Rattle.std.proofs.Common.{arith, length-append, append-nil, true, false}
+use Rattle.std.specs.Prelude.{slice_index, is_some, IsUtf8}
 use Rattle.std.proofs.lemmas.List.{get_or_append_left, get_or-append-add}
 use Rattle.std.proofs.lemmas.Option.{none-some, same_Some, slice_get-get_or}
 use Rattle.uni_text.specs.Characters.{IsChecked}
-use Rattle.regex_hir.specs.Re.{Re, accept, attempt}
+use Rattle.regex_hir.specs.Re.{Re}
 use Rattle.regex_hir.specs.Find.{Match, find}
 use Rattle.regex_hir.specs.Matches.{Matches}
 use Rattle.regex_hir.specs.Text.{byte_before}
 use Rattle.regex_hir.proofs.TextLemmas.{byte_before-zero, byte_before-add-one}
 use Rattle.regex_hir.proofs.OptionLemmas.{value_of_IsSome}
-use Rattle.regex_hir.proofs.FindLemmas.{IsFirst-of_first_between, find_sound, find_complete}
+use Rattle.regex_hir.proofs.FindLemmas.{find_sound, find_complete}
 use Rattle.regex_vm.specs.Found.{span}
 use Rattle.pat_tree.specs.Pattern.{Pattern}
 use Rattle.grep_args.specs.declared.plan.GrepPlan.{GrepPlan}
 use Rattle.pat_shape.specs.Looks.{IsLine}
-use Rattle.grep_match.specs.Wider.{LacksMatch, IsWiderBy}
+use Rattle.grep_match.specs.Matches.{matches}
+use Rattle.grep_match.specs.Wider.{HasOne, IsWiderBy, IsExactBy}
+use Rattle.grep_match.proofs.Finding.{first_within, alone}
 use Rattle.grep_watch.specs.Watched.{AreClear, EndsInLf}
 use Rattle.regex_hir.specs.Meaning.{meaning}
 use Rattle.grep_watch.specs.declared.filter.Filter.{Filter}
@@ -36,16 +38,12 @@ no_span None e = refl
 no_span (Some m) e = absurd (none-some (span m) e)
 
 module _ (re : Re) (held : List ℕ) where
-  first_within : (m : Match) → find re held 0 ≡ Some m → m.start ≤ length held
-  unfolding find
-  first_within m e = (IsFirst-of_first_between (attempt held re accept) 0 (length held) m e).to
-
   pub begins-at : (s : ℕ × ℕ) → Some s ≡ option_map span (find re held 0) → Begins re held s.0
   begins-at s e =
       let first = span_of (find re held 0) s e in
       let m = first.0 in
       let same = first.2 in
-      let within = first_within m first.1 in record {
+      let within = first_within re held m first.1 in record {
         within = omega (arith, same, within);
         none = λ i j before. (find_sound re held 0 m first.1).2 i j (omega arith) (omega (arith, before, same));
       }
@@ -133,9 +131,62 @@ clear-found plan patterns re most utf held at n wider are begins up within check
 }
 
 -- A filter goes on as it was.
+same_about : (P : Re → ℕ → Bool → Type 0) (f g : Filter) → IsSame f g
+    → P (meaning f.searcher.program.now.hir) f.most f.utf → P (meaning g.searcher.program.now.hir) g.most g.utf
+same_about P f g same h =
+    subst (λ hir. P (meaning hir) g.most g.utf) (sym same.hir)
+    (subst (λ n. P (meaning f.searcher.program.now.hir) n g.utf) (sym same.most)
+    (subst (λ u. P (meaning f.searcher.program.now.hir) f.most u) (sym same.utf) h))
+
 pub still-filters : (plan : GrepPlan) (patterns : List Pattern) (f g : Filter) → IsSame f g → Filters plan patterns f
     → Filters plan patterns g
 still-filters plan patterns f g same filters =
-    subst (λ hir. IsWiderBy plan patterns (meaning hir) g.most g.utf) (sym same.hir)
-    (subst (λ n. IsWiderBy plan patterns (meaning f.searcher.program.now.hir) n g.utf) (sym same.most)
-    (subst (λ u. IsWiderBy plan patterns (meaning f.searcher.program.now.hir) f.most u) (sym same.utf) filters))
+    record {
+      wider = same_about (IsWiderBy plan patterns) f g same filters.wider;
+      exact = λ on. same_about (IsExactBy plan patterns) f g same (filters.exact (sym same.exact ∙ on));
+    }
+
+-- What is told of a line that stands alone.
+
+module _ (plan : GrepPlan) (patterns : List Pattern) (re : Re) (most : ℕ) (line : List ℕ) (short : length line ≤ most)
+    (small : (k : ℕ) → k < length line → slice_index line k < 256)
+    (whole : (k : ℕ) → k < length line → slice_index line k ≢ 10) where
+  -- it is found in the line
+  pub told-match : IsExactBy plan patterns re most false → is_some (find re line 0) ≡ true
+      → HasOne plan patterns line
+  told-match exact e = by_found (find re line 0) refl e
+    where
+      by_found : (o : Option Match) → find re line 0 ≡ o → is_some o ≡ true
+          → HasOne plan patterns line
+      by_found None is e = absurd cc
+      by_found (Some m) is e =
+          let f = find_sound re line 0 m is in
+          exact [] line [] (record {
+            short = short;
+            small = small;
+            whole = whole;
+            is_line = alone line;
+            checked = λ on. absurd (let both : false ≡ true = on in cc);
+            at = m.start;
+            to = m.trace.end;
+            from = omega arith;
+            within = let low = first_within re line m is in omega (arith, low);
+            matches = subst (λ hay. Matches hay re m.start m.trace.end) (sym (append-nil line)) f.1;
+          })
+
+  -- it is found nowhere there
+  pub told-none : IsWiderBy plan patterns re most false → is_some (find re line 0) ≡ false
+      → matches plan patterns line ≡ Ok []
+  told-none wider e = wider [] line [] (record {
+    short = short;
+    small = small;
+    whole = whole;
+    is_line = alone line;
+    checked = λ on. absurd (let both : false ≡ true = on in cc);
+    lacks = λ i j from to m.
+        let there = subst (λ hay. Matches hay re i j) (append-nil line) m in
+        let some = find_complete re line 0 i j from (omega (arith, to)) there in
+        let v = value_of_IsSome (find re line 0) some in
+        let is : is_some (find re line 0) ≡ true = ap is_some v.1 in
+        absurd (let both : true ≡ false = sym is ∙ e in cc);
+  })

@@ -1,13 +1,13 @@
 //! The search for the first line that may have a match, in all bytes that a feed holds at once.
-ghost use Rattle.std.specs.Prelude.{◌≡◌, ℕ, ◌<◌, ◌≤◌, List, length, take, IfOk, IfSome};
+ghost use Rattle.std.specs.Prelude.{◌≡◌, ◌≢◌, ℕ, ◌<◌, ◌≤◌, List, length, slice_index, take, IfOk, IfSome, true};
 ghost use Rattle.uni_text.specs.Characters.{IsChecked};
 ghost use Rattle.pat_tree.specs.Pattern.{Pattern};
 ghost use Rattle.grep_args.specs.declared.plan.GrepPlan.{GrepPlan};
 ghost use Rattle.grep_match.specs.Compiled.{patterns_in};
-ghost use Rattle.grep_match.specs.Wider.{AreWider};
+ghost use Rattle.grep_match.specs.Wider.{AreWider, AreExact};
 ghost use Rattle.regex_hir.specs.Meaning.{meaning};
 ghost use Rattle.grep_watch.specs.Watched.{Watches, AreClear};
-ghost use Rattle.grep_watch.specs.Filtered.{Sifts, Filters, IsSame, Begins};
+ghost use Rattle.grep_watch.specs.Filtered.{Sifts, Filters, IsKnown, IsSame, Begins};
 
 use crate::watch::{Watch, are_bytes, valid_len};
 use byte_lanes::EndKind;
@@ -39,6 +39,16 @@ pub struct Sieve {
     most: usize,
     /// Whether a line must be UTF-8 too.
     utf: bool,
+    /// Whether a line in which it is found has a match.
+    is_exact: bool,
+}
+
+/// What is known of a line without a search for the patterns.
+#[derive(Clone, Copy, Debug, PartialEq, Eq)]
+pub enum Known {
+    Nothing,
+    NoMatch,
+    Match,
 }
 
 // How many of so many first bytes are UTF-8, where they must be.
@@ -76,11 +86,17 @@ impl Sieve {
     // The sieve by an expression.
     fn of(alloc: Global, wider: Wider) -> Option<Sieve>
         ensures { (plan : GrepPlan) (patterns : List Pattern) → AreWider plan patterns wider
+            → (wider.is_exact ≡ true → AreExact plan patterns wider)
             → IfSome result (Sifts plan patterns) }
     {
-        let (most, utf) = (wider.most as usize, wider.utf);
+        let (most, utf, is_exact) = (wider.most as usize, wider.utf, wider.is_exact);
         match Program::new(alloc, wider.hir, 1, TABLE) {
-            Ok(program) => Some(Sieve { program, most, utf }),
+            Ok(program) => Some(Sieve {
+                program,
+                most,
+                utf,
+                is_exact,
+            }),
             Err(_) => None,
         }
     }
@@ -92,6 +108,7 @@ pub struct Filter<'p> {
     searcher: Searcher<'p>,
     most: usize,
     utf: bool,
+    is_exact: bool,
     /// How many looks in a row passed few bytes.
     near: u32,
     /// For how many looks it rests.
@@ -109,6 +126,7 @@ impl<'p> Filter<'p> {
                 searcher,
                 most: sieve.most,
                 utf: sieve.utf,
+                is_exact: sieve.is_exact,
                 near: 0,
                 rest: 0,
             }),
@@ -151,6 +169,25 @@ impl<'p> Filter<'p> {
         if self.near >= TRIES {
             self.near = 0;
             self.rest = REST;
+        }
+    }
+
+    /// What it tells of a line without LF.
+    pub fn tell(&mut self, line: &[u8]) -> Known
+        requires { (k : ℕ) → k < length line.now → slice_index line.now k ≢ 10 }
+        ensures known { (plan : GrepPlan) (patterns : List Pattern)
+            → Filters plan patterns self.old → IsKnown plan patterns line.now result }
+        ensures same { (plan : GrepPlan) (patterns : List Pattern)
+            → Filters plan patterns self.old → Filters plan patterns self.new }
+    {
+        are_bytes(line);
+        if !self.is_exact || self.utf || line.len() > self.most {
+            return Known::Nothing;
+        }
+        if self.searcher.is_match(line, 0) {
+            Known::Match
+        } else {
+            Known::NoMatch
         }
     }
 

@@ -4,5 +4,5 @@
 mod filter;
 mod watch;
 
-pub use filter::{Filter, Sieve};
-pub use watch::Watch;
+pub use filter::{Filter, Known, Sieve};
+pub use watch::{Watch, ends_in_lf};

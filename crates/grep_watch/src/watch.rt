@@ -79,8 +79,8 @@ fn has_ascii_newlines(kind: EndKind) -> bool
     }
 }
 
-// Whether lines end in LF.
-fn ends_in_lf(feed: &LineFeed) -> bool
+/// Whether the lines of a feed end in LF.
+pub fn ends_in_lf(feed: &LineFeed) -> bool
     ensures { IsTrue result → feed.now.kind ≡ Lf }
 {
     feed.kind() == EndKind::Lf

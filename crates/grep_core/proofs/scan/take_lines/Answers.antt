@@ -1,4 +1,4 @@
-use Rattle.std.proofs.Common.{rules, ◌≡◌, length, Ok, Err, ap, sym, subst, arith}
+use Rattle.std.proofs.Common.{rules, ◌≡◌, length, Err, ap, sym, subst, arith}
 use Rattle.grep_core.specs.Work.{work_of, progress, fed, position}
 use Rattle.grep_core.specs.Underway.{Origin}
 use Rattle.grep_core.specs.WholeScans.{TakesAll}
@@ -23,34 +23,34 @@ take_until-requires-clause-ready g c = record {
         selected = omega arith;
         errors = c.requires.errors;
       };
-  watch = c.new-watch.ensures c.args.feed.now.held;
+  watch = c.first_part-part.ensures.watch c.args.scanner.now.feed.held;
   limit = λ is. c.requires.limit;
 }
 
-pub returns-in_err-ended-clause-taken : goal.returns-in_err-ended-clause-taken
-returns-in_err-ended-clause-taken g c = λ before treated job stood.
+pub returns-in_err-came-clause-taken : goal.returns-in_err-came-clause-taken
+returns-in_err-came-clause-taken g c = λ before treated job stood.
     let job_is = c.args.job.now in
     let out = g.O.Sink.tells c.args.out.now in
     let err = g.E.Sink.tells c.args.err.now in
     let from : Origin = record {
       treated = treated;
       before = before;
-      feed = c.args.feed.now;
+      feed = c.args.scanner.now.feed;
       course = c.args.course.now;
-      state = c.args.state.now;
+      state = c.args.scanner.now.state;
       out = out;
       err = err;
     } in
-    let stop = c.in_err-ended.field-0.0 in
+    let stop = c.in_err-came.field-0.0 in
     let same : c.from_residual.result ≡ Err stop = search rules in
     subst
     (TakesAll (work_of job_is) job_is.most treated
-    (position (fed c.args.feed.now before) (progress c.args.course.now c.args.state.now (printed out err)))
-    (position (fed c.take_until.new.feed (g.S.Source.tells c.take_until.new.source))
-    (progress c.take_until.new.course c.take_until.new.state
+    (position (fed c.args.scanner.now.feed before) (progress c.args.course.now c.args.scanner.now.state (printed out err)))
+    (position (fed c.take_until.new.scanner.feed (g.S.Source.tells c.take_until.new.source))
+    (progress c.take_until.new.course c.take_until.new.scanner.state
     (printed (g.O.Sink.tells c.take_until.new.out) (g.E.Sink.tells c.take_until.new.err)))))
     (sym same)
-    (c.in_err-ended.ensures.taken from job
+    (c.in_err-came.ensures.taken from job
     (standing-begun _ _ treated _ before _ _ _ _ _ job stood c.requires.selected c.requires.context c.requires.earlier
     c.requires.errors))
 
@@ -61,30 +61,30 @@ returns-in-Done-clause-taken g c = λ before treated job stood.
     let from : Origin = record {
       treated = treated;
       before = before;
-      feed = c.args.feed.now;
+      feed = c.args.scanner.now.feed;
       course = c.args.course.now;
-      state = c.args.state.now;
+      state = c.args.scanner.now.state;
       out = out;
       err = err;
     } in
-    rw c.in-Done.is at (c.in_ok-ended.ensures.taken from job
+    rw c.in-Done.is at (c.in_ok-came.ensures.taken from job
     (standing-begun _ _ treated _ before _ _ _ _ _ job stood c.requires.selected c.requires.context c.requires.earlier
     c.requires.errors))
 
-pub returns-clause-taken : goal.returns-clause-taken
-returns-clause-taken g c = λ before treated job stood.
+pub returns-in-Far-clause-taken : goal.returns-in-Far-clause-taken
+returns-in-Far-clause-taken g c = λ before treated job stood.
     let out = g.O.Sink.tells c.args.out.now in
     let err = g.E.Sink.tells c.args.err.now in
     let from : Origin = record {
       treated = treated;
       before = before;
-      feed = c.args.feed.now;
+      feed = c.args.scanner.now.feed;
       course = c.args.course.now;
-      state = c.args.state.now;
+      state = c.args.scanner.now.state;
       out = out;
       err = err;
     } in
-    let stands = rw c.in-Far.is at (c.in_ok-ended.ensures.taken from job
+    let stands = rw c.in-Far.is at (c.in_ok-came.ensures.taken from job
     (standing-begun _ _ treated _ before _ _ _ _ _ job stood c.requires.selected c.requires.context c.requires.earlier
     c.requires.errors)) in
     c.take_rest.ensures.taken from job stands

@@ -12,8 +12,8 @@ returns-in_err-ended-clause-taken g c = λ from job stands.
     let same : c.from_residual.result ≡ Err stop = search rules in
     subst
     (TakesAll (work_of job_is) job_is.most from.treated (began_at from)
-    (position (fed c.take_until.new.feed (g.S.Source.tells c.take_until.new.source))
-    (progress c.take_until.new.course c.take_until.new.state
+    (position (fed c.take_until.new.scanner.feed (g.S.Source.tells c.take_until.new.source))
+    (progress c.take_until.new.course c.take_until.new.scanner.state
     (printed (g.O.Sink.tells c.take_until.new.out) (g.E.Sink.tells c.take_until.new.err)))))
     (sym same) (c.in_err-ended.ensures.taken from job stands)
 

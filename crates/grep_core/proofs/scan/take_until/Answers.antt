@@ -1,7 +1,7 @@
-use Rattle.std.proofs.Common.{rules, ◌≢◌, ◌≡◌, subst, ◌<◌, ◌^◌, length, Ok, Err, arith, refl, sym, ap, ◌∙◌}
+use Rattle.std.proofs.Common.{rules, ◌≢◌, ◌≡◌, subst, ◌<◌, ◌^◌, Ok, Err, arith, refl, sym, ap, ◌∙◌}
 use Rattle.grep_core.proofs.scan.take_until.Goals as goal
 use Rattle.grep_match.specs.Compiled.{patterns_in}
-use Rattle.grep_core.specs.declared.scan.Next.TheVariants.{Line}
+use Rattle.grep_core.specs.declared.lines.Next.TheVariants.{Line}
 use Rattle.grep_core.specs.declared.scan.Turn.TheVariants.{Took}
 use Rattle.grep_watch.specs.Watched.{Watches}
 use Rattle.grep_core.specs.Work.{work_of, progress, fed, position}
@@ -21,6 +21,7 @@ use Rattle.tool_io.specs.Printed.{printed}
 pub line-init : goal.line-init
 line-init g c = record {
   ready = c.requires.ready;
+  until = refl;
   filter = c.requires.filter;
   standing = λ from job stands. stands;
 }
@@ -56,7 +57,7 @@ take_turn-requires-clause-max g c =
     let kept = subst (λ (f : Feed). Keeps f c.take_ahead.new.course c.take_ahead.new.state)
     (sym c.send_on.ensures.same)
     (ahead-keeps _ _ _ _ _ _ (c.in_ok-take_ahead.ensures.taken (g.E.Sink.tells c.line.err)) few
-    (unseen-keeps _ c.line.course c.line.state _ _ _ c.pass_unseen.ensures few c.line.invariant.ready.keeps)) in
+    (unseen-keeps _ c.line.course c.line.scanner.state _ _ _ c.pass_unseen.ensures few c.line.invariant.ready.keeps)) in
     kept.max
 
 pub take_turn-requires-clause-numbered : goal.take_turn-requires-clause-numbered
@@ -65,7 +66,7 @@ take_turn-requires-clause-numbered g c =
     let kept = subst (λ (f : Feed). Keeps f c.take_ahead.new.course c.take_ahead.new.state)
     (sym c.send_on.ensures.same)
     (ahead-keeps _ _ _ _ _ _ (c.in_ok-take_ahead.ensures.taken (g.E.Sink.tells c.line.err)) few
-    (unseen-keeps _ c.line.course c.line.state _ _ _ c.pass_unseen.ensures few c.line.invariant.ready.keeps)) in
+    (unseen-keeps _ c.line.course c.line.scanner.state _ _ _ c.pass_unseen.ensures few c.line.invariant.ready.keeps)) in
     kept.numbered
 
 pub take_turn-requires-clause-earlier : goal.take_turn-requires-clause-earlier
@@ -74,28 +75,28 @@ take_turn-requires-clause-earlier g c =
     let kept = subst (λ (f : Feed). Keeps f c.take_ahead.new.course c.take_ahead.new.state)
     (sym c.send_on.ensures.same)
     (ahead-keeps _ _ _ _ _ _ (c.in_ok-take_ahead.ensures.taken (g.E.Sink.tells c.line.err)) few
-    (unseen-keeps _ c.line.course c.line.state _ _ _ c.pass_unseen.ensures few c.line.invariant.ready.keeps)) in
+    (unseen-keeps _ c.line.course c.line.scanner.state _ _ _ c.pass_unseen.ensures few c.line.invariant.ready.keeps)) in
     kept.earlier
 
 pub take_turn-requires-clause-context : goal.take_turn-requires-clause-context
 take_turn-requires-clause-context g c =
     let few : c.args.job.now.plan.now.after_context < 2 ^ 32 = let most = c.if-prove.false in omega arith in
     let kept = ahead-keeps _ _ _ _ _ _ (c.in_ok-take_ahead.ensures.taken (g.E.Sink.tells c.line.err)) few
-    (unseen-keeps _ c.line.course c.line.state _ _ _ c.pass_unseen.ensures few c.line.invariant.ready.keeps) in
+    (unseen-keeps _ c.line.course c.line.scanner.state _ _ _ c.pass_unseen.ensures few c.line.invariant.ready.keeps) in
     kept.context
 
 pub take_turn-requires-clause-selected : goal.take_turn-requires-clause-selected
 take_turn-requires-clause-selected g c =
     let few : c.args.job.now.plan.now.after_context < 2 ^ 32 = let most = c.if-prove.false in omega arith in
     let kept = ahead-keeps _ _ _ _ _ _ (c.in_ok-take_ahead.ensures.taken (g.E.Sink.tells c.line.err)) few
-    (unseen-keeps _ c.line.course c.line.state _ _ _ c.pass_unseen.ensures few c.line.invariant.ready.keeps) in
+    (unseen-keeps _ c.line.course c.line.scanner.state _ _ _ c.pass_unseen.ensures few c.line.invariant.ready.keeps) in
     let count = kept.selected in let number = kept.number in omega (arith, count, number)
 
 pub take_turn-requires-clause-errors : goal.take_turn-requires-clause-errors
 take_turn-requires-clause-errors g c =
     let few : c.args.job.now.plan.now.after_context < 2 ^ 32 = let most = c.if-prove.false in omega arith in
     let kept = ahead-keeps _ _ _ _ _ _ (c.in_ok-take_ahead.ensures.taken (g.E.Sink.tells c.line.err)) few
-    (unseen-keeps _ c.line.course c.line.state _ _ _ c.pass_unseen.ensures few c.line.invariant.ready.keeps) in
+    (unseen-keeps _ c.line.course c.line.scanner.state _ _ _ c.pass_unseen.ensures few c.line.invariant.ready.keeps) in
     kept.errors
 
 pub take_turn-requires-clause-longest : goal.take_turn-requires-clause-longest
@@ -106,6 +107,10 @@ take_turn-requires-clause-longest g c =
     let longest = ahead-longest _ _ _ _ _ _ (c.in_ok-take_ahead.ensures.taken (g.E.Sink.tells c.line.err)) in
     let least = c.line.invariant.ready.longest in
     omega (arith, same, longest, least)
+
+pub take_turn-requires-clause-filter : goal.take_turn-requires-clause-filter
+take_turn-requires-clause-filter g c =
+    c.sift.ensures.filter c.args.job.now.plan.now (patterns_in c.args.job.now.patterns.now) c.line.invariant.filter
 
 pub take_turn-requires-clause-limit : goal.take_turn-requires-clause-limit
 take_turn-requires-clause-limit g c = λ is. ahead-limit _ _ _ _ _ _
@@ -123,14 +128,14 @@ returns-in_err-take_turn-clause-taken g c = λ from job stands.
     let same : c.from_residual-in_err-take_turn.result ≡ Err stop = search rules in
     subst
     (TakesPart (work_of job_is) job_is.most from
-    (position (fed c.take_turn.new.feed (g.S.Source.tells c.take_turn.new.source))
-    (progress c.take_turn.new.course c.take_turn.new.state
+    (position (fed c.take_turn.new.scanner.feed (g.S.Source.tells c.take_turn.new.source))
+    (progress c.take_turn.new.course c.take_turn.new.scanner.state
     (printed (g.O.Sink.tells c.take_turn.new.out) (g.E.Sink.tells c.take_turn.new.err)))))
     (sym same)
     (scans-stops _ _ from.treated _ _ job from.before _ _ _ _ _ _ _ _ _ _ _ _ _ _
     (standing-sent _ _ from.treated _ from.before _ _ _ _ _ _ _ _ _
     (ahead-standing _ _ _ _ _ _ (c.in_ok-take_ahead.ensures.taken (g.E.Sink.tells c.line.err)) from.treated _
-    from.before _ _ _ (unseen-standing _ c.line.course c.line.state _ _ _ c.pass_unseen.ensures _
+    from.before _ _ _ (unseen-standing _ c.line.course c.line.scanner.state _ _ _ c.pass_unseen.ensures _
     from.treated _ from.before _ _ _ _ _ c.line.invariant.ready.keeps.errors
     (c.line.invariant.standing from job stands))) _ c.send_on.ensures.same c.in_ok-send_on.ensures.sent)
     stop c.in_err-take_turn.ensures.turns)
@@ -154,7 +159,7 @@ line-preserved g c =
     let kept = subst (λ (f : Feed). Keeps f c.take_ahead.new.course c.take_ahead.new.state)
     (sym c.send_on.ensures.same)
     (ahead-keeps _ _ _ _ _ _ (c.in_ok-take_ahead.ensures.taken (g.E.Sink.tells c.line.err)) few
-    (unseen-keeps _ c.line.course c.line.state _ _ _ c.pass_unseen.ensures few had.keeps)) in
+    (unseen-keeps _ c.line.course c.line.scanner.state _ _ _ c.pass_unseen.ensures few had.keeps)) in
     record {
       ready = record {
         live = live-gives _ _ _ _ row.row row.gives;
@@ -175,12 +180,12 @@ line-preserved g c =
             (c.in_ok-take_ahead.ensures.taken (g.E.Sink.tells c.line.err)) in
             omega (arith, max, same, least, longest);
       };
-      filter = c.sift.ensures.same c.args.job.now.plan.now (patterns_in c.args.job.now.patterns.now)
-          c.line.invariant.filter;
+      until = c.in_ok-take_turn.ensures.until ∙ c.sift.ensures.until ∙ c.line.invariant.until;
+      filter = c.in_ok-take_turn.ensures.filter;
       standing = λ from job stands. standing-line _ _ from.treated _ from.before _ _ _ _ row.row _ _ _ _ _ _ _ _ _ _
           (standing-sent _ _ from.treated _ from.before _ _ _ _ _ _ _ _ _
           (ahead-standing _ _ _ _ _ _ (c.in_ok-take_ahead.ensures.taken (g.E.Sink.tells c.line.err)) from.treated _
-          from.before _ _ _ (unseen-standing _ c.line.course c.line.state _ _ _ c.pass_unseen.ensures _
+          from.before _ _ _ (unseen-standing _ c.line.course c.line.scanner.state _ _ _ c.pass_unseen.ensures _
           from.treated _ from.before _ _ _ _ _ had.keeps.errors (c.line.invariant.standing from job stands))) _
           c.send_on.ensures.same c.in_ok-send_on.ensures.sent) row.gives row.takes;
     }
@@ -191,7 +196,7 @@ returns-in-Took-Context-clause-taken g c = λ from job stands.
     standing-pauses _ _ from.treated _ from.before _ _ _ _ row.row _ _ _ _ _ _ _ _ _ _
     (standing-sent _ _ from.treated _ from.before _ _ _ _ _ _ _ _ _
     (ahead-standing _ _ _ _ _ _ (c.in_ok-take_ahead.ensures.taken (g.E.Sink.tells c.line.err)) from.treated _
-    from.before _ _ _ (unseen-standing _ c.line.course c.line.state _ _ _ c.pass_unseen.ensures _ from.treated
+    from.before _ _ _ (unseen-standing _ c.line.course c.line.scanner.state _ _ _ c.pass_unseen.ensures _ from.treated
     _ from.before _ _ _ _ _ c.line.invariant.ready.keeps.errors
     (c.line.invariant.standing from job stands))) _ c.send_on.ensures.same c.in_ok-send_on.ensures.sent)
     row.gives from.feed from.course row.takes
@@ -202,7 +207,7 @@ returns-in-Finished-clause-taken g c = λ from job stands.
     scans-ends _ _ from.treated _ _ job from.before _ _ _ _ _ _ _ _ _ _ _ _ _ _
     (standing-sent _ _ from.treated _ from.before _ _ _ _ _ _ _ _ _
     (ahead-standing _ _ _ _ _ _ (c.in_ok-take_ahead.ensures.taken (g.E.Sink.tells c.line.err)) from.treated _
-    from.before _ _ _ (unseen-standing _ c.line.course c.line.state _ _ _ c.pass_unseen.ensures _ from.treated
+    from.before _ _ _ (unseen-standing _ c.line.course c.line.scanner.state _ _ _ c.pass_unseen.ensures _ from.treated
     _ from.before _ _ _ _ _ c.line.invariant.ready.keeps.errors
     (c.line.invariant.standing from job stands))) _ c.send_on.ensures.same c.in_ok-send_on.ensures.sent)
     c.in-Finished.ended ends.0 ends.1
@@ -220,7 +225,7 @@ returns-in_err-send_on-clause-taken g c = λ from job stands.
     (sym same)
     (scans-unsent _ _ from.treated _ from.before _ _ _ _ _ _ _ _ _
     (ahead-standing _ _ _ _ _ _ (c.in_ok-take_ahead.ensures.taken (g.E.Sink.tells c.line.err)) from.treated _
-    from.before _ _ _ (unseen-standing _ c.line.course c.line.state _ _ _ c.pass_unseen.ensures _ from.treated
+    from.before _ _ _ (unseen-standing _ c.line.course c.line.scanner.state _ _ _ c.pass_unseen.ensures _ from.treated
     _ from.before _ _ _ _ _ c.line.invariant.ready.keeps.errors
     (c.line.invariant.standing from job stands))) _ job stop c.in_err-send_on.ensures.sent)
 
@@ -236,6 +241,6 @@ returns-in_err-take_ahead-clause-taken g c = λ from job stands.
     (printed (g.O.Sink.tells c.take_ahead.new.out) (g.E.Sink.tells c.line.err)))))
     (sym same)
     (scans-cut _ _ from.treated _ from.before _ _ _ _ _ _ job _ _ stop
-    (unseen-standing _ c.line.course c.line.state _ _ _ c.pass_unseen.ensures _ from.treated _ from.before _ _ _
+    (unseen-standing _ c.line.course c.line.scanner.state _ _ _ c.pass_unseen.ensures _ from.treated _ from.before _ _ _
     _ _ c.line.invariant.ready.keeps.errors (c.line.invariant.standing from job stands))
     (c.in_err-take_ahead.ensures.taken (g.E.Sink.tells c.line.err)))

@@ -11,7 +11,7 @@ returns-clause-clear c = λ plan patterns filters.
     let less = c.saturating_sub.ensures in
     let within = c.checked_len.ensures.within in
     clear-found plan patterns (meaning f.searcher.program.now.hir) f.most f.utf c.args.held.now c.first_begin.result
-    c.checked_len.result filters c.are_bytes.ensures
+    c.checked_len.result filters.wider c.are_bytes.ensures
     c.first_begin.ensures.first (omega (arith, low, within)) (omega (arith, low, less, within))
     (subst (λ u. IsChecked u (take c.checked_len.result c.args.held.now)) c.first_begin.ensures.same.utf
     c.checked_len.ensures.valid)

@@ -1,4 +1,3 @@
-use Rattle.std.proofs.Common.{length}
 use Rattle.regex_hir.specs.Meaning.{meaning}
 use Rattle.grep_watch.proofs.Filtering.{begins-at, begins-nowhere}
 use Rattle.grep_watch.proofs.filter.Filter.first_begin.Goals as goal
