@@ -184,6 +184,13 @@ static void information(void) {
   for (size_t i = 0; i < sizeof rows / sizeof *rows; i++)
     number(c, rows[i].name, rows[i].question);
   printf("NULL: %d\n", pcre2_pattern_info(NULL, PCRE2_INFO_BSR, NULL));
+  static const char *const begins[] = {"abc", "(cat|cow|coyote)", "[ab]c", "a?b", "a|bc"};
+  for (size_t i = 0; i < sizeof begins / sizeof *begins; i++) {
+    pcre2_code *b = code(begins[i], 0, NULL);
+    number(b, "first type", PCRE2_INFO_FIRSTCODETYPE);
+    number(b, "first", PCRE2_INFO_FIRSTCODEUNIT);
+    pcre2_code_free(b);
+  }
   PCRE2_SPTR table, first, last;
   uint32_t size = 0;
   pcre2_pattern_info(c, PCRE2_INFO_NAMETABLE, &table);

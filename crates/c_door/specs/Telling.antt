@@ -31,6 +31,7 @@ use Rattle.pat_tree.specs.Pattern.{pattern_of}
 use Rattle.c_door.specs.Around.{compiled_around}
 use Rattle.c_door.specs.Limits.{limited, limited_ends}
 use Rattle.c_door.specs.Held.{EngineValue}
+use Rattle.pcre2_api.specs.Leads.{IsFirstByte}
 use Rattle.c_door.specs.declared.told.Fault.{Fault}
 use Rattle.c_door.specs.declared.told.Answer.{Answer}
 use Rattle.c_door.specs.declared.told.Hit.{Hit}
@@ -128,6 +129,15 @@ told_by i o names = record {
 
 abbrev pub told_of : CodeParts → Told
 told_of code = told_by (info_of code) code.tree.options code.tree.names
+
+abbrev pub byte_told : Option ℕ → ℤ
+byte_told (Some byte) = pos byte
+byte_told None = negsuc 0
+
+-- the byte is told that every match begins with, or that there is none
+abbrev pub IsFirst : CodeParts → ℤ → Type 0
+IsFirst code (pos byte) = IsFirstByte code byte
+IsFirst code (negsuc n) = (b : ℕ) → b < 256 → ¬ IsFirstByte code b
 
 -- Matches
 

@@ -9,7 +9,7 @@ ghost use Rattle.pcre2_api.specs.Matched.{search_of};
 ghost use Rattle.pcre2_api.specs.Substituted.{substituted};
 ghost use Rattle.c_door.specs.Asking.{options_of, match_options_of, subst_options_of};
 ghost use Rattle.c_door.specs.Telling.{IsHeld, IsCompiled, IsAnswer, IsEnds, IsReplaced, IsShared, IsText, IsName};
-ghost use Rattle.c_door.specs.Telling.{IsPut, told_of};
+ghost use Rattle.c_door.specs.Telling.{IsPut, told_of, IsFirst};
 ghost use Rattle.c_door.specs.Runs.{IsRunsAnswer};
 
 use crate::asked::{Asked, MatchAsked, SubstAsked, match_options_of, options_of, subst_options_of};
@@ -225,6 +225,20 @@ pub extern "C" fn door_info(alloc: Global, handle: &mut Handle) -> Told
     let told = engine.told();
     handle.put(engine);
     told
+}
+
+/// Tells the byte that every match begins with (PCRE2_INFO_FIRSTCODEUNIT), or -1 where it isn't
+/// known that there is one.
+#[unsafe(no_mangle)]
+pub extern "C" fn door_first_byte(alloc: Global, handle: &mut Handle) -> i32
+    requires held { is_some handle.old.engine ≡ true }
+    ensures first { IsHeld handle.old.engine (λ e. IsFirst e.code.value result) }
+    ensures kept { handle.new.engine ≡ handle.old.engine }
+{
+    let engine = handle.take(alloc);
+    let first = engine.first_byte();
+    handle.put(engine);
+    first
 }
 
 /// Writes as much of a name of the name table as there is room for (PCRE2_INFO_NAMETABLE). Entries
