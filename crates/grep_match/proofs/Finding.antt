@@ -1,7 +1,7 @@
 -- A line in which a match of an expression begins that is found nowhere but where a pattern matches.
 use Rattle.std.proofs.Common.{◌≡◌, ◌≢◌, ◌∙◌, ℕ, suc, ◌+◌, ◌<◌, ◌≤◌, ◌||◌, ◌⊎◌, inl, inr, List, [], ◌∷◌, ◌++◌}
 use Rattle.std.proofs.Common.{length, length-append, map, drop, get_or, Bool, false, Option, Some, None}
-use Rattle.std.proofs.Common.{pos, refl, sym, ap, subst, arith}
+use Rattle.std.proofs.Common.{refl, sym, ap, subst, arith}
 use Rattle.std.specs.Prelude.{slice_index}
 use Rattle.std.proofs.Math.Seq.{drop-cons}
 use Rattle.std.proofs.lemmas.Option.{none-some, slice_get_past}
@@ -16,17 +16,17 @@ use Rattle.regex_hir.proofs.OptionLemmas.{value_of_IsSome}
 use Rattle.regex_hir.proofs.FindLemmas.{IsFirst-of_first_between, find_sound, find_complete}
 use Rattle.regex_hir.proofs.TextLemmas.{byte_before-zero}
 use Rattle.pat_tree.specs.declared.options.MatchOptions.{MatchOptions}
-use Rattle.pat_tree.specs.Pattern.{Pattern, pattern_of}
+use Rattle.pat_tree.specs.declared.options.Options.{Options}
+use Rattle.pat_tree.specs.Pattern.{Pattern}
 use Rattle.pat_shape.specs.Looks.{IsLine}
 use Rattle.ordered_search.specs.PlaceAnswer.{Outcome}
-use Rattle.pcre2_api.specs.Compiled.{CodeParts}
 use Rattle.pcre2_api.specs.Answers.{Answer, found, none, pattern_answer}
-use Rattle.pcre2_api.specs.Shapes.{MissesLines, FindsLines}
 use Rattle.grep_args.specs.declared.plan.GrepPlan.{GrepPlan}
-use Rattle.grep_match.specs.Compiled.{patterns_in}
-use Rattle.grep_match.specs.Matches.{first_answer, limits, shows_each, matches}
+use Rattle.grep_match.specs.declared.patterns.Kept.{Kept}
+use Rattle.grep_match.specs.Compiled.{pattern_in, meant}
+use Rattle.grep_match.specs.Matches.{first_answer, limits, shows_each}
 use Rattle.grep_match.specs.declared.wider.Wider.{Wider}
-use Rattle.grep_match.specs.Wider.{HasMatch, SomeMatches, AreExact, IsWiderBy, AreWider}
+use Rattle.grep_match.specs.Wider.{Misses, Finds, HasMatch, SomeMatches, AreExact, IsWiderBy, AreWider}
 use Rattle.grep_match.proofs.Searching.{line_one}
 use Rattle.grep_match.proofs.Lacking.{or_true, one_none}
 use Rattle.grep_match.proofs.Widening.{branches, branches-more}
@@ -69,45 +69,45 @@ alone line = record {
 }
 
 -- by the exact shape of one pattern its answer is known
-decided : (code : CodeParts) (matching : MatchOptions) (most : ℕ) (re : Re) → MissesLines code matching most re
-    → FindsLines code matching most re → (line : List ℕ) → IsSearched most code.tree.options.utf line
-    → IsTold (pattern_answer matching line 0 (pattern_of code.tree))
-decided code matching most re misses finds line s = by_find (find re (line ++ []) 0) refl
+decided : (p : Pattern) (matching : MatchOptions) (most : ℕ) (re : Re) → Misses p matching most re
+    → Finds p matching most re → (line : List ℕ) → IsSearched most p.options.utf line
+    → IsTold (pattern_answer matching line 0 p)
+decided p matching most re misses finds line s = by_find (find re (line ++ []) 0) refl
   where
     long : length (line ++ []) ≡ length line
     long = let n = length-append line [] in omega (arith, n)
 
     by_find : (o : Option Match) → find re (line ++ []) 0 ≡ o
-        → IsTold (pattern_answer matching line 0 (pattern_of code.tree))
+        → IsTold (pattern_answer matching line 0 p)
     by_find None e =
-        inl (misses [] line [] (λ _. pos 0) s.short s.small s.whole (alone line) s.checked
+        inl (misses [] line [] s.short s.small s.whole (alone line) s.checked
         (λ i j from to m.
         let v = value_of_IsSome _ (find_complete re (line ++ []) 0 i j from (let n = long in omega (arith, to, n)) m) in
         none-some v.0 (sym e ∙ v.1)))
     by_find (Some m) e =
         let f = find_sound re (line ++ []) 0 m e in
         let low = first_within re (line ++ []) m e in
-        inr (finds [] line [] (λ _. pos 0) s.short s.small s.whole (alone line) s.checked m.start m.trace.end
+        inr (finds [] line [] s.short s.small s.whole (alone line) s.checked m.start m.trace.end
         (omega arith) (let n = long in omega (arith, low, n)) f.1)
 
 -- Of the first i patterns none gives an error, and one of them finds something in a line in which a match of their
 -- branches begins.
-pub record FirstMatchSome (matching : MatchOptions) (codes : List CodeParts) (most : ℕ) (hirs : List Hir) (utf : Bool)
-    (i : ℕ) : Type 0 where
+pub record FirstMatchSome (options : Options) (matching : MatchOptions) (codes : List Kept) (most : ℕ)
+    (hirs : List Hir) (utf : Bool) (i : ℕ) : Type 0 where
   pub told : (line : List ℕ) → IsSearched most utf line
-      → (first_answer matching line 0 (patterns_in (drop i codes))
-      ≡ first_answer matching line 0 (patterns_in codes))
-      ⊎ IsFound (first_answer matching line 0 (patterns_in codes))
+      → (first_answer matching line 0 (meant options (drop i codes))
+      ≡ first_answer matching line 0 (meant options codes))
+      ⊎ IsFound (first_answer matching line 0 (meant options codes))
   pub finds : (before line after : List ℕ) → HasMatch (branches hirs) most utf before line after
-      → IsFound (first_answer matching line 0 (patterns_in codes))
+      → IsFound (first_answer matching line 0 (meant options codes))
 
 none-begins : (hay : List ℕ) (i j : ℕ) → ¬ Matches hay (branches []) i j
 unfolding in_ranges
 none-begins hay i j m = let never = m.2 in absurd cc
 
-pub first_some : (matching : MatchOptions) (codes : List CodeParts) (most : ℕ) (utf : Bool)
-    → FirstMatchSome matching codes most [] utf 0
-first_some matching codes most utf = record {
+pub first_some : (options : Options) (matching : MatchOptions) (codes : List Kept) (most : ℕ) (utf : Bool)
+    → FirstMatchSome options matching codes most [] utf 0
+first_some options matching codes most utf = record {
   told = λ line s. inl refl;
   finds = λ before line after h. absurd (none-begins (before ++ (line ++ after)) h.at h.to h.matches);
 }
@@ -116,35 +116,36 @@ one_found : (matching : MatchOptions) (line : List ℕ) (p : Pattern) (ps : List
     → pattern_answer matching line 0 p ≡ found o → first_answer matching line 0 (p ∷ ps) ≡ found o
 one_found matching line p ps o e = rw (e, first_answer) refl
 
-module _ (matching : MatchOptions) (codes : List CodeParts) (i : ℕ) (code : CodeParts) (most : ℕ)
+module _ (options : Options) (matching : MatchOptions) (codes : List Kept) (i : ℕ) (code : Kept) (most : ℕ)
     (hirs all : List Hir) (hir : Hir) (some utf : Bool) (within : i < length codes) (is : code ≡ get_or codes i code)
-    (misses : MissesLines code matching most (meaning hir)) (exact : FindsLines code matching most (meaning hir))
-    (joined : all ≡ hirs ++ hir ∷ []) (both : utf ≡ (some || code.tree.options.utf))
-    (first : FirstMatchSome matching codes most hirs some i) where
+    (misses : Misses (pattern_in options code) matching most (meaning hir))
+    (exact : Finds (pattern_in options code) matching most (meaning hir))
+    (joined : all ≡ hirs ++ hir ∷ []) (both : utf ≡ (some || (pattern_in options code).options.utf))
+    (first : FirstMatchSome options matching codes most hirs some i) where
   abbrev whole : List ℕ → Answer
-  whole line = first_answer matching line 0 (patterns_in codes)
+  whole line = first_answer matching line 0 (meant options codes)
 
   abbrev behind : List ℕ → ℕ → Answer
-  behind line n = first_answer matching line 0 (patterns_in (drop n codes))
+  behind line n = first_answer matching line 0 (meant options (drop n codes))
 
   cut : drop i codes ≡ code ∷ drop (i + 1) codes
   cut =
       drop-cons codes i code within ∙ ap (λ x. x ∷ drop (suc i) codes) (sym is)
       ∙ ap (λ n. code ∷ drop n codes) {x = suc i} {y = i + 1} (omega arith)
 
-  passes : (line : List ℕ) → pattern_answer matching line 0 (pattern_of code.tree) ≡ none
+  passes : (line : List ℕ) → pattern_answer matching line 0 (pattern_in options code) ≡ none
       → behind line i ≡ behind line (i + 1)
   passes line e =
-      ap (λ l. first_answer matching line 0 (patterns_in l)) cut
-      ∙ one_none matching line (pattern_of code.tree) (patterns_in (drop (i + 1) codes)) e
+      ap (λ l. first_answer matching line 0 (meant options l)) cut
+      ∙ one_none matching line (pattern_in options code) (meant options (drop (i + 1) codes)) e
 
-  stops : (line : List ℕ) (o : Outcome) → pattern_answer matching line 0 (pattern_of code.tree) ≡ found o
+  stops : (line : List ℕ) (o : Outcome) → pattern_answer matching line 0 (pattern_in options code) ≡ found o
       → behind line i ≡ found o
   stops line o e =
-      ap (λ l. first_answer matching line 0 (patterns_in l)) cut
-      ∙ one_found matching line (pattern_of code.tree) (patterns_in (drop (i + 1) codes)) o e
+      ap (λ l. first_answer matching line 0 (meant options l)) cut
+      ∙ one_found matching line (pattern_in options code) (meant options (drop (i + 1) codes)) o e
 
-  checked_one : (line : List ℕ) → IsChecked utf line → IsChecked code.tree.options.utf line
+  checked_one : (line : List ℕ) → IsChecked utf line → IsChecked (pattern_in options code).options.utf line
   checked_one line h = λ on. h (both ∙ rw (on, or_true some) refl)
 
   checked_some : (line : List ℕ) → IsChecked utf line → IsChecked some line
@@ -160,21 +161,21 @@ module _ (matching : MatchOptions) (codes : List CodeParts) (i : ℕ) (code : Co
 
   -- with one that finds something all do
   by_one : (line : List ℕ) → IsSearched most utf line → (o : Outcome)
-      → pattern_answer matching line 0 (pattern_of code.tree) ≡ found o → IsFound (whole line)
+      → pattern_answer matching line 0 (pattern_in options code) ≡ found o → IsFound (whole line)
   by_one line s o e = elim (earlier line s) [
     | inl same ↦ (o, sym same ∙ stops line o e)
     | inr f ↦ f
   ]
 
   told_more : (line : List ℕ) → IsSearched most utf line → (behind line (i + 1) ≡ whole line) ⊎ IsFound (whole line)
-  told_more line s = by_answer (decided code matching most (meaning hir) misses exact line (record {
+  told_more line s = by_answer (decided (pattern_in options code) matching most (meaning hir) misses exact line (record {
     short = s.short;
     small = s.small;
     whole = s.whole;
     checked = checked_one line s.checked;
   }))
     where
-      by_answer : IsTold (pattern_answer matching line 0 (pattern_of code.tree))
+      by_answer : IsTold (pattern_answer matching line 0 (pattern_in options code))
           → (behind line (i + 1) ≡ whole line) ⊎ IsFound (whole line)
       by_answer (inl e) = elim (earlier line s) [
         | inl same ↦ inl (sym (passes line e) ∙ same)
@@ -207,18 +208,18 @@ module _ (matching : MatchOptions) (codes : List CodeParts) (i : ℕ) (code : Co
           matches = here;
         })
         | inr last ↦
-            let f = exact before line after (λ _. pos 0) h.short h.small h.whole h.is_line
+            let f = exact before line after h.short h.small h.whole h.is_line
             (checked_one line h.checked) h.at h.to h.from h.within last in
             by_one line s f.0 f.1
       ]
 
-  pub next_some : FirstMatchSome matching codes most all utf (i + 1)
+  pub next_some : FirstMatchSome options matching codes most all utf (i + 1)
   next_some = record { told = told_more; finds = finds_more }
 
-pub all_some : (matching : MatchOptions) (codes : List CodeParts) (i : ℕ) (wider : Wider) (hirs : List Hir)
+pub all_some : (options : Options) (matching : MatchOptions) (codes : List Kept) (i : ℕ) (wider : Wider) (hirs : List Hir)
     → meaning wider.hir ≡ branches hirs
-    → FirstMatchSome matching codes wider.most hirs wider.utf i → SomeMatches matching (patterns_in codes) wider
-all_some matching codes i wider hirs is first before line after h =
+    → FirstMatchSome options matching codes wider.most hirs wider.utf i → SomeMatches matching (meant options codes) wider
+all_some options matching codes i wider hirs is first before line after h =
     first.finds before line after (subst (λ re. HasMatch re wider.most wider.utf before line after) is h)
 
 -- where only the first match counts, such a line has it

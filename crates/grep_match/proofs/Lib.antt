@@ -1,6 +1,9 @@
-pub mod Searching
 pub mod PatternTrees
 pub mod PatternLines
+pub mod Searching
 pub mod Lacking
 pub mod Widening
 pub mod Finding
+pub mod SpeltReading
+pub mod SpeltSearches
+pub mod Spelling

@@ -14,7 +14,7 @@ use Rattle.line_feed.proofs.Newlines.{newline-within}
 use Rattle.line_feed.proofs.RowLemmas.{first-least, no_row-true, no_row-false, rows-rest, rows-row, rows-empty}
 use Rattle.line_feed.proofs.RowLemmas.{last-end}
 use Rattle.grep_args.specs.declared.plan.GrepPlan.{GrepPlan}
-use Rattle.pcre2_api.specs.Compiled.{CodeParts}
+use Rattle.pat_tree.specs.Pattern.{Pattern}
 use Rattle.grep_match.specs.declared.patterns.PatternError.{PatternError}
 use Rattle.grep_match.specs.PatternTexts.{escaped, wrapped, lines_of, or_empty_line, fixed_strings, pattern_texts}
 use Rattle.grep_match.specs.PatternTexts.{line_end}
@@ -73,7 +73,7 @@ strings-append plan xs ys = ap (map (wrapped plan)) (map-append (flat_map escape
 
 -- so far these lines of the text were compiled, and these bytes are left
 pub record Compiling (options : Options) (plan : GrepPlan) (kind : EndKind) (text rest : List ℕ)
-    (old now : List CodeParts) : Type 0 where
+    (old now : List Pattern) : Type 0 where
   pub done : List (List ℕ)
   pub n : ℕ
   pub offset : ℕ
@@ -82,7 +82,7 @@ pub record Compiling (options : Options) (plan : GrepPlan) (kind : EndKind) (tex
   pub added : Adds {A = Unit {0}} options (strings plan done) old now (Ok (tt {0}))
   pub room : length rest ≤ length text
 
-pub compiling-none : (options : Options) (plan : GrepPlan) (kind : EndKind) (text : List ℕ) (old : List CodeParts)
+pub compiling-none : (options : Options) (plan : GrepPlan) (kind : EndKind) (text : List ℕ) (old : List Pattern)
     → Compiling options plan kind text text old old
 compiling-none options plan kind text old = record {
   done = [];
@@ -93,7 +93,7 @@ compiling-none options plan kind text old = record {
   room = omega arith;
 }
 
-all-then : (options : Options) (plan : GrepPlan) (kind : EndKind) (text rest : List ℕ) (old mid : List CodeParts)
+all-then : (options : Options) (plan : GrepPlan) (kind : EndKind) (text rest : List ℕ) (old mid : List Pattern)
     (k : ℕ) → (c : Compiling options plan kind text rest old mid) → 0 < length rest → k ≡ first_newline kind rest
     → texts_of (rows kind (length text) (input_with text End)).rows
     ≡ (c.done ++ take k rest ∷ []) ++ texts_of
@@ -104,7 +104,7 @@ all-then options plan kind text rest old mid k c some is =
     ∙ sym (append_assoc c.done (take k rest ∷ []) _)
 
 pub compiling-more : {A : Type 0} (a : A) (options : Options) (plan : GrepPlan) (kind : EndKind) (text rest : List ℕ)
-    (old mid new : List CodeParts) (k : ℕ) → Compiling options plan kind text rest old mid → 0 < length rest
+    (old mid new : List Pattern) (k : ℕ) → Compiling options plan kind text rest old mid → 0 < length rest
     → k ≡ first_newline kind rest
     → Adds options (wrapped plan (flat_map escaped (take k rest)) ∷ []) mid new (Ok a)
     → Compiling options plan kind text (drop (k + newline_len kind rest k) rest) old new
@@ -122,7 +122,7 @@ compiling-more a options plan kind text rest old mid new k c some is one = recor
 
 -- the bytes after the line are left
 pub compiling-next : {A : Type 0} (a : A) (options : Options) (plan : GrepPlan) (kind : EndKind) (text rest : List ℕ)
-    (old mid new : List CodeParts) (k len : ℕ) → Compiling options plan kind text rest old mid → 0 < length rest
+    (old mid new : List Pattern) (k len : ℕ) → Compiling options plan kind text rest old mid → 0 < length rest
     → k ≡ first_newline kind rest → len ≡ newline_len kind rest k
     → Adds options (wrapped plan (flat_map escaped (take k rest)) ∷ []) mid new (Ok a)
     → Compiling options plan kind text (take (length rest - (k + len)) (drop (k + len) rest)) old new
@@ -141,7 +141,7 @@ within-rest kind rest k len is len_is =
     omega (arith, within, len_is)
 
 pub compiling-stops : (A : Type 0) (options : Options) (plan : GrepPlan) (kind : EndKind) (text rest : List ℕ)
-    (old mid new : List CodeParts) (k : ℕ) (e : PatternError) → Compiling options plan kind text rest old mid
+    (old mid new : List Pattern) (k : ℕ) (e : PatternError) → Compiling options plan kind text rest old mid
     → 0 < length rest → k ≡ first_newline kind rest
     → Adds {A = A} options (wrapped plan (flat_map escaped (take k rest)) ∷ []) mid new (Err e) → 0 < length text
     → Adds {A = A} options (map (wrapped plan) (fixed_strings kind text)) old new (Err e)
@@ -159,7 +159,7 @@ compiling-stops A options plan kind text rest old mid new k e c some is one text
     c.added one))
 
 pub compiling-ends : (options : Options) (plan : GrepPlan) (kind : EndKind) (text rest : List ℕ)
-    (old new : List CodeParts) → Compiling options plan kind text rest old new → length rest ≡ 0 → 0 < length text
+    (old new : List Pattern) → Compiling options plan kind text rest old new → length rest ≡ 0 → 0 < length text
     → Adds {A = Unit {0}} options (map (wrapped plan) (fixed_strings kind text)) old new (Ok (tt {0}))
 compiling-ends options plan kind text rest old new c none some =
     let all : texts_of (rows kind (length text) (input_with text End)).rows ≡ c.done =
@@ -211,7 +211,7 @@ texts-append plan xs ys = by_kind plan.fixed_strings
 
 -- the patterns of the first texts, and then those of one more
 pub one-text : {A : Type 0} (options : Options) (plan : GrepPlan) (texts : List (List ℕ)) (i : ℕ) (text : List ℕ)
-    (mid new : List CodeParts) (found : Result A PatternError) → i < length texts → text ≡ get_or texts i text
+    (mid new : List Pattern) (found : Result A PatternError) → i < length texts → text ≡ get_or texts i text
     → Adds {A = Unit {0}} options (pattern_texts plan (take i texts)) [] mid (Ok (tt {0}))
     → Adds {A = A} options (pattern_texts plan (text ∷ [])) mid new found
     → Adds {A = A} options (pattern_texts plan (take (i + 1) texts)) [] new found
@@ -225,7 +225,7 @@ one-text {A} options plan texts i text mid new found inside is first second =
 
 -- one of them is refused
 pub text-refused : (A : Type 0) (options : Options) (plan : GrepPlan) (texts : List (List ℕ)) (i : ℕ) (text : List ℕ)
-    (mid new : List CodeParts) (e : PatternError) → i < length texts → text ≡ get_or texts i text
+    (mid new : List Pattern) (e : PatternError) → i < length texts → text ≡ get_or texts i text
     → Adds {A = Unit {0}} options (pattern_texts plan (take i texts)) [] mid (Ok (tt {0}))
     → Adds {A = A} options (pattern_texts plan (text ∷ [])) mid new (Err e)
     → Adds {A = A} options (pattern_texts plan texts) [] new (Err e)

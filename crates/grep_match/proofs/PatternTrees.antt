@@ -1,15 +1,16 @@
 -- What compiling texts adds to patterns.
 use Rattle.std.proofs.Common.{◌≡◌, ℕ, ◌+◌, List, [], ◌∷◌, ◌++◌, length, Result, Ok, Err, refl, sym, ap, ◌∙◌, arith}
-use Rattle.std.proofs.Common.{append-nil, append_assoc, length-append}
-use Rattle.std.proofs.lemmas.List.{map-append, length-map}
+use Rattle.std.proofs.Common.{append-nil, append_assoc, length-append, ℤ}
+use Rattle.std.proofs.lemmas.List.{length-map}
 use Rattle.pat_tree.specs.declared.options.Options.{Options}
 use Rattle.token_parts.specs.declared.fault.Fault.{Fault}
-use Rattle.pcre2_api.specs.Compiled.{CodeParts}
 use Rattle.grep_match.specs.declared.patterns.PatternError.{PatternError}
 use Rattle.grep_match.specs.declared.patterns.PatternError.TheVariants.{Bad, Memory}
-use Rattle.pat_tree.specs.Pattern.{Pattern, pattern_of}
+use Rattle.pat_tree.specs.Pattern.{Pattern}
 use Rattle.pcre2_api.specs.Patterns.{compiled}
-use Rattle.grep_match.specs.Compiled.{BadPattern, Compiled, patterns_in, compiled_from, with_pattern, Adds}
+use Rattle.grep_match.specs.Compiled.{BadPattern, Compiled, compiled_from, with_pattern, Adds}
+use Rattle.grep_match.specs.Compiled.{pattern_in, meant}
+use Rattle.grep_match.specs.declared.patterns.Kept.{Kept}
 
 -- what the first text adds to what the others are
 first_then : ℕ → Result Pattern Fault → Compiled → Compiled
@@ -135,44 +136,55 @@ unfolding with_all
 with-bad [] bad = refl
 with-bad (p ∷ ps) bad = ap (with_pattern p) (with-bad ps bad)
 
-pub adds-none : {A : Type 0} (a : A) (options : Options) (codes : List CodeParts) → Adds options [] codes codes (Ok a)
+pub adds-none : {A : Type 0} (a : A) (options : Options) (codes : List Pattern) → Adds options [] codes codes (Ok a)
 adds-none a options codes = ([], sym (append-nil codes), refl)
 
-pub adds-then : {A B : Type 0} (a : A) (options : Options) (xs ys : List (List ℕ)) (old mid new : List CodeParts)
+pub adds-then : {A B : Type 0} (a : A) (options : Options) (xs ys : List (List ℕ)) (old mid new : List Pattern)
     (found : Result B PatternError) → Adds options xs old mid (Ok a) → Adds options ys mid new found
     → Adds options (xs ++ ys) old new found
 adds-then a options xs ys old mid new (Ok b) first second =
-    let place : length old + 1 + length (patterns_in first.0) ≡ length mid + 1 =
+    let place : length old + 1 + length first.0 ≡ length mid + 1 =
     omega (
       arith,
       length-append old first.0,
       ap length first.1,
-      length-map first.0 (λ (c : CodeParts). pattern_of c.tree),
     ) in (
       first.0 ++ second.0,
       second.1 ∙ ap (λ l. l ++ second.0) first.1 ∙ append_assoc old first.0 second.0,
-      from-append options (length old + 1) xs ys (patterns_in first.0) first.2
-          ∙ ap (λ k. with_all (patterns_in first.0) (compiled_from options k ys)) place
-          ∙ ap (with_all (patterns_in first.0)) second.2
-          ∙ with-all (patterns_in first.0) (patterns_in second.0)
-          ∙ ap (λ l. let r : Compiled = Ok l in r)
-          (sym (map-append (λ (c : CodeParts). pattern_of c.tree) first.0 second.0)),
+      from-append options (length old + 1) xs ys first.0 first.2
+          ∙ ap (λ k. with_all first.0 (compiled_from options k ys)) place
+          ∙ ap (with_all first.0) second.2
+          ∙ with-all first.0 second.0,
     )
 adds-then a options xs ys old mid new (Err (Bad n number at)) first second =
-    let place : length old + 1 + length (patterns_in first.0) ≡ length mid + 1 =
+    let place : length old + 1 + length first.0 ≡ length mid + 1 =
     omega (
       arith,
       length-append old first.0,
       ap length first.1,
-      length-map first.0 (λ (c : CodeParts). pattern_of c.tree),
     ) in
-    from-append options (length old + 1) xs ys (patterns_in first.0) first.2
-    ∙ ap (λ k. with_all (patterns_in first.0) (compiled_from options k ys)) place
-    ∙ ap (with_all (patterns_in first.0)) second
-    ∙ with-bad (patterns_in first.0) _
+    from-append options (length old + 1) xs ys first.0 first.2
+    ∙ ap (λ k. with_all first.0 (compiled_from options k ys)) place
+    ∙ ap (with_all first.0) second
+    ∙ with-bad first.0 _
 adds-then a options xs ys old mid new (Err Memory) first second = tt
 
-pub adds-first : (A : Type 0) (options : Options) (xs ys : List (List ℕ)) (old new : List CodeParts)
+pub adds-first : (A : Type 0) (options : Options) (xs ys : List (List ℕ)) (old new : List Pattern)
     (e : PatternError) → Adds {A = A} options xs old new (Err e) → Adds {A = A} options (xs ++ ys) old new (Err e)
 adds-first A options xs ys old new (Bad n number at) refused = from-first options (length old + 1) xs ys _ refused
 adds-first A options xs ys old new Memory refused = tt
+
+-- one text alone
+pub adds-one : {A : Type 0} (a : A) (options : Options) (x : List ℕ) (old new : List Pattern) (p : Pattern)
+    → compiled options x ≡ Ok p → new ≡ old ++ p ∷ [] → Adds options (x ∷ []) old new (Ok a)
+adds-one a options x old new p is more = (p ∷ [], more, from-ok options (length old + 1) x [] p is)
+
+pub one-refused : (A : Type 0) (options : Options) (x : List ℕ) (kept : List Kept) (new : List Pattern) (n at : ℕ)
+    (number : ℤ) → compiled options x ≡ Err (record { number = number; at = at }) → n ≡ length kept + 1
+    → Adds {A = A} options (x ∷ []) (meant options kept) new (Err (Bad n number at))
+one-refused A options x kept new n at number is count =
+    let fault : Fault = record { number = number; at = at } in
+    let place : length (meant options kept) + 1 ≡ n =
+    omega (arith, count, length-map kept (pattern_in options)) in
+    from-bad options (length (meant options kept) + 1) x [] fault is
+    ∙ ap (λ k. let r : Compiled = Err (record { number = k; fault = fault }) in r) place

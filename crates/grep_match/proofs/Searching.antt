@@ -9,6 +9,7 @@ use Rattle.std.proofs.lemmas.List.{at_drop_more, map-append}
 use Rattle.std.proofs.lemmas.List.Concat.{flat_map-append}
 use Rattle.std.proofs.lemmas.List.Elements.{All-nil, All-push}
 use Rattle.pat_tree.specs.declared.options.MatchOptions.{MatchOptions}
+use Rattle.pat_tree.specs.declared.options.Options.{Options}
 use Rattle.ordered_search.specs.PlaceAnswer.{Outcome}
 use Rattle.ordered_search.specs.MatchAnswer.{match_answer}
 use Rattle.pcre2_api.specs.Compiled.{CodeParts}
@@ -24,7 +25,8 @@ use Rattle.pcre2_api.specs.pcre2_errors.declared.error.MatchError.{MatchError}
 use Rattle.pcre2_api.specs.pcre2_errors.MatchErrors.{minus, number_of}
 use Rattle.pcre2_api.specs.Answers.{Answer, found, none, error, answer_of, pattern_answer, search_answer}
 use Rattle.pcre2_api.proofs.Starting.{bad-text}
-use Rattle.grep_match.specs.Compiled.{patterns_in}
+use Rattle.grep_match.specs.declared.patterns.Kept.{Kept}
+use Rattle.grep_match.specs.Compiled.{pattern_in, meant}
 use Rattle.grep_match.specs.Matches.{first_answer, Matches, with_match, limits, not_empty, later, shows_each, matches}
 use Rattle.grep_match.specs.Found.{Listed, Lists, place_of, groups_of, IsInLine, IsAdded, IsUnfound, IsAnswer}
 use Rattle.grep_match.specs.Found.{IsVerdict}
@@ -99,14 +101,14 @@ ends_trying wanted len before after (told.Error n) (error e) rest other h = h
 ends_trying wanted len before after (told.Error n) none rest other h = absurd h
 ends_trying wanted len before after (told.Error n) (found o) rest other h = absurd h
 
-module _ (matching : MatchOptions) (line : List ℕ) (start : ℕ) where
-  abbrev tried : List CodeParts → Answer
-  tried codes = first_answer matching line start (patterns_in codes)
+module _ (options : Options) (matching : MatchOptions) (line : List ℕ) (start : ℕ) where
+  abbrev tried : List Kept → Answer
+  tried codes = first_answer matching line start (meant options codes)
 
-  abbrev here : CodeParts → Answer
-  here code = pattern_answer matching line start (pattern_of code.tree)
+  abbrev here : Kept → Answer
+  here code = pattern_answer matching line start (pattern_in options code)
 
-  module _ (codes : List CodeParts) (i : ℕ) (code : CodeParts) (inside : i < length codes)
+  module _ (codes : List Kept) (i : ℕ) (code : Kept) (inside : i < length codes)
       (is : code ≡ get_or codes i code) (rest : tried (drop i codes) ≡ tried codes) where
     step : tried (drop i codes) ≡ by_first (tried (drop (i + 1) codes)) (here code)
     step = at_drop_more tried codes i code inside ∙ ap (λ d. tried (d ∷ drop (i + 1) codes)) (sym is)

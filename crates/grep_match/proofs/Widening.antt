@@ -1,8 +1,7 @@
 -- A line in which no match of an expression begins that is found wherever a pattern matches.
-use Rattle.std.proofs.Common.{◌≡◌, ◌≢◌, ◌∙◌, ℕ, suc, ◌+◌, ◌<◌, ◌≤◌, ◌||◌, ◌⊎◌, inl, inr, List, [], ◌∷◌, ◌++◌, length}
-use Rattle.std.proofs.Common.{map, drop, get_or, Bool, true, false, Option, Some, None, IfSome, pos, refl, sym, ap}
-use Rattle.std.proofs.Common.{subst, arith}
-use Rattle.std.specs.Prelude.{slice_index}
+use Rattle.std.proofs.Common.{◌≡◌, ◌∙◌, ℕ, suc, ◌+◌, ◌<◌, ◌≤◌, ◌||◌, inl, inr, List, [], ◌∷◌, ◌++◌, length}
+use Rattle.std.proofs.Common.{map, drop, get_or, Bool, true, false, Option, Some, None, IfSome, refl, sym, ap}
+use Rattle.std.proofs.Common.{subst, arith, pos, Result, Ok, Err, IfOk}
 use Rattle.std.proofs.Math.Seq.{drop-cons}
 use Rattle.std.proofs.lemmas.List.{drop_all, map-append}
 use Rattle.uni_text.specs.Characters.{IsChecked}
@@ -12,15 +11,18 @@ use Rattle.regex_hir.specs.Matches.{Matches}
 use Rattle.regex_hir.specs.Meaning.{meaning, alt_all}
 use Rattle.regex_hir.specs.declared.hir.Hir.{Hir}
 use Rattle.pat_tree.specs.declared.options.MatchOptions.{MatchOptions}
+use Rattle.pat_tree.specs.declared.options.Options.{Options}
 use Rattle.pat_tree.specs.Pattern.{Pattern, pattern_of}
+use Rattle.pat_shape.specs.declared.lines.LineShape.{LineShape}
 use Rattle.pcre2_api.specs.Compiled.{CodeParts}
-use Rattle.pcre2_api.specs.Answers.{none, pattern_answer}
+use Rattle.pcre2_api.specs.Shapes.{MissesLines, FindsLines}
+use Rattle.pcre2_api.specs.Answers.{none}
 use Rattle.grep_args.specs.declared.plan.GrepPlan.{GrepPlan}
-use Rattle.pcre2_api.specs.Shapes.{MissesLines}
-use Rattle.grep_match.specs.Compiled.{patterns_in}
+use Rattle.grep_match.specs.declared.patterns.Kept.{Kept}
+use Rattle.grep_match.specs.Compiled.{pattern_in, meant}
 use Rattle.grep_match.specs.Matches.{first_answer, limits}
 use Rattle.grep_match.specs.declared.wider.Wider.{Wider}
-use Rattle.grep_match.specs.Wider.{LacksMatch, NoneMatches, AreWider}
+use Rattle.grep_match.specs.Wider.{Misses, Finds, LacksMatch, NoneMatches, AreWider}
 use Rattle.grep_match.proofs.Searching.{line_none}
 use Rattle.grep_match.proofs.Lacking.{or_true, one_none}
 
@@ -59,23 +61,23 @@ module _ (hirs : List Hir) (hir : Hir) (before line after : List ℕ) where
       (alt-last (before ++ (line ++ after)) (map meaning hirs) (meaning hir) i j h))
 
 -- the first i patterns find nothing in a line in which no match of their branches begins
-abbrev pub FirstMatchNone : MatchOptions → List CodeParts → ℕ → List Hir → Bool → ℕ → Type 0
-FirstMatchNone matching codes most hirs utf i =
+abbrev pub FirstMatchNone : Options → MatchOptions → List Kept → ℕ → List Hir → Bool → ℕ → Type 0
+FirstMatchNone options matching codes most hirs utf i =
     (before line after : List ℕ) → LacksMatch (branches hirs) most utf before line after
-    → first_answer matching line 0 (patterns_in (drop i codes)) ≡ first_answer matching line 0 (patterns_in codes)
+    → first_answer matching line 0 (meant options (drop i codes)) ≡ first_answer matching line 0 (meant options codes)
 
-pub next_misses : (matching : MatchOptions) (codes : List CodeParts) (i : ℕ) (code : CodeParts) (most : ℕ)
+pub next_misses : (options : Options) (matching : MatchOptions) (codes : List Kept) (i : ℕ) (code : Kept) (most : ℕ)
     (hirs all : List Hir) (hir : Hir) (some utf : Bool)
-    → i < length codes → code ≡ get_or codes i code → MissesLines code matching most (meaning hir)
-    → all ≡ hirs ++ hir ∷ [] → utf ≡ (some || code.tree.options.utf)
-    → FirstMatchNone matching codes most hirs some i → FirstMatchNone matching codes most all utf (i + 1)
-next_misses matching codes i code most hirs all hir some utf within is misses joined both first before line after
+    → i < length codes → code ≡ get_or codes i code → Misses (pattern_in options code) matching most (meaning hir)
+    → all ≡ hirs ++ hir ∷ [] → utf ≡ (some || (pattern_in options code).options.utf)
+    → FirstMatchNone options matching codes most hirs some i → FirstMatchNone options matching codes most all utf (i + 1)
+next_misses options matching codes i code most hirs all hir some utf within is misses joined both first before line after
     lacks =
     let checked = subst (λ b. IsChecked b line) both lacks.checked in
     let none_begins = subst (λ hs. (i j : ℕ) → length before ≤ i → i ≤ length before + length line → ¬ Matches
     (before ++ (line ++ after)) (branches hs) i j) joined lacks.lacks in
     let here =
-    misses before line after (λ _. pos 0) lacks.short lacks.small lacks.whole lacks.is_line
+    misses before line after lacks.short lacks.small lacks.whole lacks.is_line
     (λ on. checked (rw (on, or_true some) refl))
     (λ a b low high. lacks-last hirs hir before line after a b (none_begins a b low high)) in
     let fewer : LacksMatch (branches hirs) most some before line after = record {
@@ -89,16 +91,16 @@ next_misses matching codes i code most hirs all hir some utf within is misses jo
     let cut : drop i codes ≡ code ∷ drop (i + 1) codes =
     drop-cons codes i code within ∙ ap (λ x. x ∷ drop (suc i) codes) (sym is)
     ∙ ap (λ n. code ∷ drop n codes) {x = suc i} {y = i + 1} (omega arith) in
-    sym (ap (λ l. first_answer matching line 0 (patterns_in l)) cut
-    ∙ one_none matching line (pattern_of code.tree) (patterns_in (drop (i + 1) codes)) here)
+    sym (ap (λ l. first_answer matching line 0 (meant options l)) cut
+    ∙ one_none matching line (pattern_in options code) (meant options (drop (i + 1) codes)) here)
     ∙ first before line after fewer
 
-pub all_miss : (matching : MatchOptions) (codes : List CodeParts) (i : ℕ) (wider : Wider) (hirs : List Hir)
+pub all_miss : (options : Options) (matching : MatchOptions) (codes : List Kept) (i : ℕ) (wider : Wider) (hirs : List Hir)
     → length codes ≤ i → meaning wider.hir ≡ branches hirs
-    → FirstMatchNone matching codes wider.most hirs wider.utf i → NoneMatches matching (patterns_in codes) wider
-all_miss matching codes i wider hirs past is first before line after lacks =
+    → FirstMatchNone options matching codes wider.most hirs wider.utf i → NoneMatches matching (meant options codes) wider
+all_miss options matching codes i wider hirs past is first before line after lacks =
     sym (first before line after (subst (λ re. LacksMatch re wider.most wider.utf before line after) is lacks))
-    ∙ ap (λ l. first_answer matching line 0 (patterns_in l)) (drop_all i codes past)
+    ∙ ap (λ l. first_answer matching line 0 (meant options l)) (drop_all i codes past)
 
 -- no search of such a line finds anything
 pub are_wider : (plan : GrepPlan) (matching : MatchOptions) (patterns : List Pattern) (wider : Wider)
@@ -113,3 +115,23 @@ pub if_wider : (plan : GrepPlan) (matching : MatchOptions) (patterns : List Patt
     → IfSome found (NoneMatches matching patterns) → IfSome found (AreWider plan patterns)
 if_wider plan matching patterns None same finds = finds
 if_wider plan matching patterns (Some wider) same finds = are_wider plan matching patterns wider same finds
+
+-- what is told of lines by a code is told of its pattern
+pub misses-by : {E : Type 0} (r : Result (Option LineShape) E) (code : CodeParts) (p : Pattern)
+    (matching : MatchOptions) (most : ℕ) → pattern_of code.tree ≡ p
+    → IfOk r (λ o. IfSome o (λ shape. MissesLines code matching most (meaning shape.hir)))
+    → IfOk r (λ o. IfSome o (λ shape. Misses p matching most (meaning shape.hir)))
+misses-by (Ok (Some shape)) code p matching most is h =
+    subst (λ q. Misses q matching most (meaning shape.hir)) is (λ before line after. h before line after (λ _. pos 0))
+misses-by (Ok None) code p matching most is h = tt
+misses-by (Err e) code p matching most is h = tt
+
+pub finds-by : {E : Type 0} (r : Result (Option LineShape) E) (code : CodeParts) (p : Pattern)
+    (matching : MatchOptions) (most : ℕ) → pattern_of code.tree ≡ p
+    → IfOk r (λ o. IfSome o (λ shape. shape.is_exact ≡ true → FindsLines code matching most (meaning shape.hir)))
+    → IfOk r (λ o. IfSome o (λ shape. shape.is_exact ≡ true → Finds p matching most (meaning shape.hir)))
+finds-by (Ok (Some shape)) code p matching most is h = λ on.
+    subst (λ q. Finds q matching most (meaning shape.hir)) is
+    (λ before line after. h on before line after (λ _. pos 0))
+finds-by (Ok None) code p matching most is h = tt
+finds-by (Err e) code p matching most is h = tt

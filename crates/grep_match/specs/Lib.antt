@@ -1,5 +1,6 @@
 pub use Rattle.pcre2_api.specs as pcre2_api
 pub mod PatternTexts
+pub mod Spelt
 pub mod Compiled
 pub mod Modes
 pub mod Matches

@@ -8,7 +8,7 @@ use Rattle.regex_hir.specs.Meaning.{meaning}
 use Rattle.pat_tree.specs.Pattern.{Pattern}
 use Rattle.pat_tree.specs.declared.options.MatchOptions.{MatchOptions}
 use Rattle.ordered_search.specs.PlaceAnswer.{Outcome}
-use Rattle.pcre2_api.specs.Answers.{found, none}
+use Rattle.pcre2_api.specs.Answers.{found, none, pattern_answer}
 use Rattle.pat_shape.specs.Looks.{IsLine}
 use Rattle.grep_args.specs.declared.plan.GrepPlan.{GrepPlan}
 use Rattle.grep_match.specs.Matches.{matches, first_answer}
@@ -23,6 +23,32 @@ pub record LacksMatch (re : Re) (most : ℕ) (utf : Bool) (before line after : L
   pub checked : IsChecked utf line
   pub lacks : (i j : ℕ) → length before ≤ i → i ≤ length before + length line
       → ¬ Matches (before ++ (line ++ after)) re i j
+
+-- such a line of at most so many bytes has no match of the pattern
+abbrev pub Misses : Pattern → MatchOptions → ℕ → Re → Type 0
+Misses p matching most re =
+    (before line after : List ℕ)
+    → length line ≤ most
+    → ((k : ℕ) → k < length line → slice_index line k < 256)
+    → ((k : ℕ) → k < length line → slice_index line k ≢ 10)
+    → IsLine before line after
+    → IsChecked p.options.utf line
+    → ((i j : ℕ) → length before ≤ i → i ≤ length before + length line
+    → ¬ Matches (before ++ (line ++ after)) re i j)
+    → pattern_answer matching line 0 p ≡ none
+
+-- where a match of the expression begins in it, it has one
+abbrev pub Finds : Pattern → MatchOptions → ℕ → Re → Type 0
+Finds p matching most re =
+    (before line after : List ℕ)
+    → length line ≤ most
+    → ((k : ℕ) → k < length line → slice_index line k < 256)
+    → ((k : ℕ) → k < length line → slice_index line k ≢ 10)
+    → IsLine before line after
+    → IsChecked p.options.utf line
+    → (i j : ℕ) → length before ≤ i → i ≤ length before + length line
+    → Matches (before ++ (line ++ after)) re i j
+    → (o : Outcome) × (pattern_answer matching line 0 p ≡ found o)
 
 -- no pattern matches such a line
 abbrev pub NoneMatches : MatchOptions → List Pattern → Wider → Type 0

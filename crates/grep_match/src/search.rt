@@ -1,20 +1,22 @@
 //! What the patterns find in a line.
-ghost use Rattle.std.specs.Prelude.{◌≡◌, ◌<◌, ◌≤◌, ◌+◌, ◌||◌, not, [], ◌∷◌, length, Some, IfOk, IfSome};
+ghost use Rattle.std.specs.Prelude.{◌≡◌, ◌<◌, ◌≤◌, ◌+◌, ◌||◌, not, [], ◌∷◌, length, Some, IfOk, IfSome, IsTrue};
 ghost use Rattle.std.specs.Str.{is_utf8};
 ghost use Rattle.pat_tree.specs.declared.options.PartialMode.TheVariants.{Off};
 ghost use Rattle.ordered_search.specs.Setting.{Setting};
 ghost use Rattle.ordered_search.specs.PlaceAnswer.{Outcome};
 ghost use Rattle.pcre2_api.specs.Matched.{IsMatchError};
 ghost use Rattle.pat_tree.specs.Pattern.{pattern_of};
-ghost use Rattle.grep_match.specs.Compiled.{patterns_in};
+ghost use Rattle.grep_match.specs.Compiled.{patterns_in, pattern_in, IsKept};
+ghost use Rattle.grep_match.specs.Spelt.{spelling, IsSpelling, StandsNowhere};
 ghost use Rattle.grep_match.specs.Matches.{matches, first_answer, limits, later, with_match, shows_each};
 ghost use Rattle.pcre2_api.specs.Answers.{pattern_answer, search_answer};
 ghost use Rattle.grep_match.specs.Found.{Lists, IsAdded, IsUnfound, IsAnswer, IsVerdict};
 
 use crate::found::{MatchList, Place};
 use crate::modes::{Mode, mode_of};
-use crate::patterns::Patterns;
+use crate::patterns::{Kept, Patterns};
 use grep_args::GrepPlan;
+use memchr::memmem;
 use pcre_io::Memory;
 use pcre2_api::{Code, Found, MatchError, MatchOptions, NoCallouts, Scratch, is_text};
 use std::alloc::Global;
@@ -144,10 +146,82 @@ fn try_pattern(
     }
 }
 
+// Whether a text stands nowhere in a line from a start on.
+fn lacks(line: &[u8], start: usize, text: &[u8]) -> bool
+    requires { start ≤ length line.now }
+    ensures { IsTrue result → StandsNowhere text.now line.now start }
+{
+    match memmem::find(&line[start..], text) {
+        None => true,
+        Some(_) => false,
+    }
+}
+
+// Searches for a fixed string that is kept as its text.
+fn try_text(
+    patterns: &Patterns,
+    text: &[u8],
+    line: &[u8],
+    start: usize,
+    options: &MatchOptions,
+    wanted: &[u32],
+    work: &mut Workspace,
+) -> Result<Answer, Memory>
+    requires begun { start ≤ length line.now }
+    requires short { length line.now < 4294967295 }
+    requires off { options.now.«partial» ≡ Off }
+    requires known { IfSome work.old.utf8 (λ b. b ≡ is_utf8 line.now) }
+    requires spelt { IsSpelling patterns.now.options text.now }
+    ensures known { IfSome work.new.utf8 (λ b. b ≡ is_utf8 line.now) }
+    ensures answer { IfOk result (λ a. IsAnswer wanted.now (length line.now)
+        work.old.found work.new.found a (pattern_answer options.now line.now start
+        (spelling patterns.now.options text.now))) }
+{
+    if lacks(line, start, text) {
+        return Ok(Answer::Nothing);
+    }
+    let code = patterns.spell(text)?;
+    try_pattern(&code, line, start, options, wanted, work)
+}
+
+// Searches for a pattern as it is kept.
+fn try_kept(
+    patterns: &Patterns,
+    kept: &Kept,
+    line: &[u8],
+    start: usize,
+    options: &MatchOptions,
+    wanted: &[u32],
+    work: &mut Workspace,
+) -> Result<Answer, Memory>
+    requires begun { start ≤ length line.now }
+    requires short { length line.now < 4294967295 }
+    requires off { options.now.«partial» ≡ Off }
+    requires known { IfSome work.old.utf8 (λ b. b ≡ is_utf8 line.now) }
+    requires kept { IsKept patterns.now.options kept.now }
+    ensures known { IfSome work.new.utf8 (λ b. b ≡ is_utf8 line.now) }
+    ensures answer { IfOk result (λ a. IsAnswer wanted.now (length line.now)
+        work.old.found work.new.found a (pattern_answer options.now line.now start
+        (pattern_in patterns.now.options kept.now))) }
+{
+    match kept {
+        Kept::Code(code) => try_pattern(code, line, start, options, wanted, work),
+        Kept::Text(text) => try_text(
+            patterns,
+            text.as_slice(),
+            line,
+            start,
+            options,
+            wanted,
+            work,
+        ),
+    }
+}
+
 /// Searches for the patterns in order, from a start on. The first that doesn't answer that there is no match ends it; a
 /// match is listed with the groups that are wanted.
 pub fn first_answer(
-    codes: &[Code],
+    patterns: &Patterns,
     line: &[u8],
     start: usize,
     options: &MatchOptions,
@@ -161,10 +235,10 @@ pub fn first_answer(
     ensures known { IfSome work.new.utf8 (λ b. b ≡ is_utf8 line.now) }
     ensures answer { IfOk result (λ a. IsAnswer wanted.now (length line.now)
         work.old.found work.new.found a (first_answer options.now line.now start
-        (patterns_in codes.now))) }
+        (patterns_in patterns.now))) }
 {
-    for code in codes {
-        match try_pattern(code, line, start, options, wanted, work)? {
+    for kept in patterns.kept() {
+        match try_kept(patterns, kept, line, start, options, wanted, work)? {
             Answer::Nothing => {}
             answer => return Ok(answer),
         }
@@ -186,7 +260,7 @@ pub fn limits(plan: &GrepPlan) -> MatchOptions
 // The later matches, from the end of the first one. None of them is empty.
 fn later(
     plan: &GrepPlan,
-    codes: &[Code],
+    patterns: &Patterns,
     line: &[u8],
     mut start: usize,
     work: &mut Workspace,
@@ -197,7 +271,7 @@ fn later(
     ensures { IfOk result (λ v. (o : Outcome) → Lists plan.now.only_matching (length line.now)
         work.old.found (o ∷ [])
         → IsVerdict plan.now.only_matching (length line.now) work.new.found v
-        (with_match o (later plan.now (patterns_in codes.now) line.now (length line.now + 1)
+        (with_match o (later plan.now (patterns_in patterns.now) line.now (length line.now + 1)
         start))) }
 {
     let wanted = plan.only_matching.as_slice();
@@ -206,7 +280,7 @@ fn later(
         ..limits(plan)
     };
     for _turn in 0..line.len() + 1 {
-        match first_answer(codes, line, start, &options, wanted, work)? {
+        match first_answer(patterns, line, start, &options, wanted, work)? {
             Answer::Found(place) => start = place.to,
             Answer::Nothing => return Ok(Verdict::Match),
             Answer::Error(n) => return Ok(Verdict::Error(n)),
@@ -234,16 +308,15 @@ pub fn search_line(
     ensures { IfOk result (λ v. IsVerdict plan.now.only_matching (length line.now) work.new.found v
         (matches plan.now (patterns_in patterns.now) line.now)) }
 {
-    let codes = patterns.codes();
     let wanted = plan.only_matching.as_slice();
     work.found.clear();
     work.utf8 = None;
-    match first_answer(codes, line, 0, &limits(plan), wanted, work)? {
+    match first_answer(patterns, line, 0, &limits(plan), wanted, work)? {
         Answer::Nothing => Ok(Verdict::NoMatch),
         Answer::Error(n) => Ok(Verdict::Error(n)),
         Answer::Found(place) => {
             if shows_each(plan) {
-                later(plan, codes, line, place.to, work)
+                later(plan, patterns, line, place.to, work)
             } else {
                 Ok(Verdict::Match)
             }

@@ -4,10 +4,10 @@ ghost use Rattle.pat_tree.specs.declared.options.PartialMode.TheVariants.{Off};
 ghost use Rattle.grep_match.specs.Compiled.{patterns_in};
 ghost use Rattle.grep_match.specs.Needed.{NoneAnswers, AreNeeded};
 
-use crate::patterns::Patterns;
+use crate::patterns::{Kept, Patterns};
 use crate::search::limits;
 use grep_args::GrepPlan;
-use pcre2_api::{ByteText, Code, MatchOptions};
+use pcre2_api::{ByteText, MatchOptions};
 
 // Longer lines than the first of these that serves are searched: some patterns pass no limit on short lines alone.
 const LENGTHS: [u32; 3] = [65_535, 2_047, 127];
@@ -26,18 +26,21 @@ pub struct Needed {
 }
 
 // The text for lines of at most so many bytes.
-fn needed_within(codes: &[Code], matching: &MatchOptions, most: u32) -> Option<Needed>
+fn needed_within(patterns: &Patterns, matching: &MatchOptions, most: u32) -> Option<Needed>
     requires { matching.now.«partial» ≡ Off }
-    ensures { IfSome result (NoneAnswers matching.now (patterns_in codes.now)) }
+    ensures { IfSome result (NoneAnswers matching.now (patterns_in patterns.now)) }
 {
     let mut text = ByteText::nowhere();
     let mut utf = false;
-    for code in codes {
+    for kept in patterns.kept() {
+        let Kept::Code(code) = kept else {
+            return None;
+        };
         let Some(more) = code.needed(most, matching) else {
             return None;
         };
         text = text.either(&more);
-        utf |= code.options().utf;
+        utf |= patterns.is_utf(kept);
     }
     Some(Needed { text, most, utf })
 }
@@ -47,13 +50,12 @@ fn needed_within(codes: &[Code], matching: &MatchOptions, most: u32) -> Option<N
 pub fn needed_text(plan: &GrepPlan, patterns: &Patterns) -> Option<Needed>
     ensures { IfSome result (AreNeeded plan.now (patterns_in patterns.now)) }
 {
-    let codes = patterns.codes();
-    if codes.len() > MANY {
+    if patterns.len() > MANY {
         return None;
     }
     let matching = limits(plan);
     for most in LENGTHS {
-        if let Some(needed) = needed_within(codes, &matching, most) {
+        if let Some(needed) = needed_within(patterns, &matching, most) {
             return Some(needed);
         }
     }

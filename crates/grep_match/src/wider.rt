@@ -1,20 +1,24 @@
 //! Expressions that are found in each line that a pattern matches.
 ghost use Rattle.std.specs.Prelude.{◌≡◌, ◌++◌, ◌∷◌, [], IfOk, IfSome, OnOk, false, true};
 ghost use Rattle.pat_tree.specs.declared.options.PartialMode.TheVariants.{Off};
-ghost use Rattle.grep_match.specs.Compiled.{patterns_in};
+ghost use Rattle.regex_hir.specs.Meaning.{meaning};
+ghost use Rattle.grep_match.specs.Compiled.{patterns_in, pattern_in, IsKept};
 ghost use Rattle.grep_match.specs.Matches.{shows_each};
-ghost use Rattle.grep_match.specs.Wider.{NoneMatches, SomeMatches, AreWider, AreExact};
+ghost use Rattle.grep_match.specs.Wider.{Misses, Finds, NoneMatches, SomeMatches, AreWider, AreExact};
 
-use crate::patterns::Patterns;
+use crate::patterns::{Kept, Patterns};
 use crate::search::{limits, shows_each};
 use grep_args::GrepPlan;
 use pat_tree::Memory;
-use pcre2_api::{Code, MatchOptions};
+use pcre2_api::{LineShape, MatchOptions};
 use regex_hir::Hir;
 use std::alloc::Global;
 
 // Longer lines than the first of these that serves are searched: some patterns pass no limit on short lines alone.
 const LENGTHS: [u32; 3] = [65_535, 2_047, 127];
+
+// The alternation of more is too large for a search.
+const MOST: usize = 16_384;
 
 /// An expression of which a match begins in each line that has a match of a pattern. It may be found in other lines
 /// too.
@@ -37,28 +41,53 @@ fn push(branches: &mut Vec<Hir>, hir: Hir) -> Result<(), Memory>
     Ok(())
 }
 
+// The shape of a pattern as it is kept.
+fn shape_of(
+    alloc: Global,
+    patterns: &Patterns,
+    kept: &Kept,
+    most: u32,
+    matching: &MatchOptions,
+) -> Result<Option<LineShape>, Memory>
+    requires off { matching.now.«partial» ≡ Off }
+    requires kept { IsKept patterns.now.options kept.now }
+    ensures misses { IfOk result (λ o. IfSome o (λ shape.
+        Misses (pattern_in patterns.now.options kept.now) matching.now most (meaning shape.hir))) }
+    ensures finds { IfOk result (λ o. IfSome o (λ shape. shape.is_exact ≡ true
+        → Finds (pattern_in patterns.now.options kept.now) matching.now most
+        (meaning shape.hir))) }
+{
+    match kept {
+        Kept::Code(code) => code.shape(alloc, most, matching),
+        Kept::Text(text) => match patterns.spell(text.as_slice()) {
+            Ok(code) => code.shape(alloc, most, matching),
+            Err(_) => Err(Memory),
+        },
+    }
+}
+
 // The expression for lines of at most so many bytes.
 fn wider_within(
     alloc: Global,
-    codes: &[Code],
+    patterns: &Patterns,
     matching: &MatchOptions,
     most: u32,
 ) -> Result<Option<Wider>, Memory>
     requires { matching.now.«partial» ≡ Off }
     ensures misses { IfOk result (λ o. IfSome o
-        (NoneMatches matching.now (patterns_in codes.now))) }
+        (NoneMatches matching.now (patterns_in patterns.now))) }
     ensures finds { IfOk result (λ o. IfSome o (λ wider. wider.is_exact ≡ true
-        → SomeMatches matching.now (patterns_in codes.now) wider)) }
+        → SomeMatches matching.now (patterns_in patterns.now) wider)) }
 {
     let mut branches = Vec::new(alloc);
     let mut utf = false;
     let mut is_exact = true;
-    for code in codes {
-        let Some(shape) = code.shape(alloc, most, matching)? else {
+    for kept in patterns.kept() {
+        let Some(shape) = shape_of(alloc, patterns, kept, most, matching)? else {
             return Ok(None);
         };
         push(&mut branches, shape.hir)?;
-        utf |= code.options().utf;
+        utf |= patterns.is_utf(kept);
         is_exact &= shape.is_exact;
     }
     Ok(Some(Wider {
@@ -84,16 +113,19 @@ fn for_plan(plan: &GrepPlan, mut wider: Wider) -> Wider
 }
 
 /// An expression that is found in each line that has a match, under the limits of the plan: a line before the one in
-/// which it is first found isn't searched, nor where it is exact that line. None where no such expression is known, or
-/// for want of memory.
+/// which it is first found isn't searched, nor where it is exact that line. None where no such expression is known, of
+/// more than 16,384 patterns, or for want of memory.
 pub fn wider_of(alloc: Global, plan: &GrepPlan, patterns: &Patterns) -> Option<Wider>
     ensures wider { IfSome result (AreWider plan.now (patterns_in patterns.now)) }
     ensures exact { IfSome result (λ wider. wider.is_exact ≡ true
         → AreExact plan.now (patterns_in patterns.now) wider) }
 {
+    if patterns.len() > MOST {
+        return None;
+    }
     let matching = limits(plan);
     for most in LENGTHS {
-        match wider_within(alloc, patterns.codes(), &matching, most) {
+        match wider_within(alloc, patterns, &matching, most) {
             Ok(Some(wider)) => return Some(for_plan(plan, wider)),
             Ok(None) => {}
             Err(_) => return None,

@@ -11,8 +11,7 @@ use Rattle.pat_tree.specs.Pattern.{Pattern}
 use Rattle.pcre2_api.specs.Answers.{found, none, error}
 use Rattle.grep_match.specs.declared.found.Place.{Place}
 use Rattle.pat_tree.specs.declared.options.MatchOptions.{MatchOptions}
-use Rattle.pcre2_api.specs.Compiled.{CodeParts}
-use Rattle.grep_match.specs.Compiled.{patterns_in}
+use Rattle.grep_match.specs.Compiled.{Keeping, patterns_in}
 use Rattle.grep_match.specs.declared.search.Answer.{Answer as Told}
 use Rattle.grep_match.specs.declared.search.Answer.TheVariants as told
 use Rattle.grep_match.specs.declared.search.Verdict.TheVariants as verdict
@@ -319,7 +318,7 @@ behind-then text a b c first next = record {
 
 -- what the code's search answers, in the definition's terms
 pub answered : (wanted wanted' : List ℕ) (len : ℕ) (before after : Listed) (a a' : Told)
-    (matching matching' : MatchOptions) (text : List ℕ) (start : ℕ) (codes codes' : List CodeParts)
+    (matching matching' : MatchOptions) (text : List ℕ) (start : ℕ) (codes codes' : Keeping)
     → wanted ≡ wanted' → matching ≡ matching' → a ≡ a' → codes ≡ codes'
     → IsAnswer wanted len before after a (first_answer matching text start (patterns_in codes))
     → IsAnswer wanted' len before after a' (first_answer matching' text start (patterns_in codes'))

@@ -96,7 +96,7 @@ fn later(search: &Search<'_>, line: Reach, to: usize, work: &mut Workspace) -> R
         search.now.text.now row lines (length search.now.text.now + 1) to to))
         work.new.found block) }
 {
-    let codes = search.patterns.codes();
+    let patterns = search.patterns;
     let wanted = search.plan.only_matching.as_slice();
     let options = MatchOptions {
         notempty: true,
@@ -111,7 +111,7 @@ fn later(search: &Search<'_>, line: Reach, to: usize, work: &mut Workspace) -> R
                 verdict: Verdict::Match,
             });
         }
-        match first_answer(codes, search.text, start, &options, wanted, work)? {
+        match first_answer(patterns, search.text, start, &options, wanted, work)? {
             Answer::Found(place) => {
                 start = place.to;
                 reach = extend(search.text, search.kind, reach, start);
@@ -187,10 +187,10 @@ fn block_at(
     ensures gives { IfOk result (Gives search.now.kind search.now.plan.now
         (patterns_in search.now.patterns.now) search.now.text.now from work.new.found) }
 {
-    let codes = search.patterns.codes();
+    let patterns = search.patterns;
     let wanted = search.plan.only_matching.as_slice();
     let options = limits(search.plan);
-    match first_answer(codes, search.text, from.at, &options, wanted, work)? {
+    match first_answer(patterns, search.text, from.at, &options, wanted, work)? {
         Answer::Found(place) => block_with(search, line, place.to, work),
         Answer::Nothing => Ok(Block {
             reach: line,

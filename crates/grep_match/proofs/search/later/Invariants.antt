@@ -6,5 +6,5 @@ use Rattle.grep_match.proofs.search.later.Given as goal
 
 abbrev pub invariant-loop-turn : goal.invariant-loop-turn
 invariant-loop-turn l =
-    IsOn l.plan (patterns_in l.codes) l.line l.initial.start l.initial.work.found l.work.found l._turn l.start
+    IsOn l.plan (patterns_in l.patterns) l.line l.initial.start l.initial.work.found l.work.found l._turn l.start
     × IfSome l.work.utf8 (λ b. b ≡ is_utf8 l.line)

@@ -12,12 +12,10 @@ use Rattle.grep_match.proofs.search.search_line.Goals as goal
 
 pub returns-in-Nothing : goal.returns-in-Nothing
 returns-in-Nothing c =
-    subst (λ d. IsVerdict c.args.plan.now.only_matching (length c.args.line.now) c.first_answer.new.work.found
-    verdict.NoMatch (matches c.args.plan.now (patterns_in d) c.args.line.now)) c.codes-codes.ensures
-    (says_none c.args.plan.now (patterns_in c.codes-codes.result.now) c.args.line.now _ c.first_answer.new.work.found
+    says_none c.args.plan.now (patterns_in c.args.patterns.now) c.args.line.now _ c.first_answer.new.work.found
     c.clear.ensures
-    (restated _ _ _ _ _ _ _ _ _ c.args.line.now 0 (patterns_in c.codes-codes.result.now) c.as_slice-wanted.ensures
-    c.limits.ensures c.in-Nothing.is c.in_ok-first_answer.ensures.answer))
+    (restated _ _ _ _ _ _ _ _ _ c.args.line.now 0 (patterns_in c.args.patterns.now) c.as_slice-wanted.ensures
+    c.limits.ensures c.in-Nothing.is c.in_ok-first_answer.ensures.answer)
 
 pub returns-in-Error : goal.returns-in-Error
 returns-in-Error c =
@@ -25,31 +23,24 @@ returns-in-Error c =
     subst (λ n. IsVerdict c.args.plan.now.only_matching (length c.args.line.now) c.first_answer.new.work.found
     (verdict.Error n) (matches c.args.plan.now (patterns_in c.args.patterns.now) c.args.line.now))
     (sym (to_z-of_z w32 c.in-Error.n fits))
-    (subst (λ d. IsVerdict c.args.plan.now.only_matching (length c.args.line.now) c.first_answer.new.work.found
-    (verdict.Error c.in-Error.n) (matches c.args.plan.now (patterns_in d) c.args.line.now))
-    c.codes-codes.ensures
-    (says_error c.args.plan.now (patterns_in c.codes-codes.result.now) c.args.line.now c.clear.new.self
+    (says_error c.args.plan.now (patterns_in c.args.patterns.now) c.args.line.now c.clear.new.self
     c.first_answer.new.work.found c.in-Error.n
-    (restated _ _ _ _ _ _ _ _ _ c.args.line.now 0 (patterns_in c.codes-codes.result.now) c.as_slice-wanted.ensures
-    c.limits.ensures c.in-Error.is c.in_ok-first_answer.ensures.answer)))
+    (restated _ _ _ _ _ _ _ _ _ c.args.line.now 0 (patterns_in c.args.patterns.now) c.as_slice-wanted.ensures
+    c.limits.ensures c.in-Error.is c.in_ok-first_answer.ensures.answer))
 
 pub returns-then-shows_each : goal.returns-then-shows_each
 returns-then-shows_each c =
     IfOk-weaker c.later.result _ _
     (λ v more.
-    subst (λ d. IsVerdict c.args.plan.now.only_matching (length c.args.line.now) c.later.new.work.found v
-    (matches c.args.plan.now (patterns_in d) c.args.line.now)) c.codes-codes.ensures
-    (says_each c.args.plan.now (patterns_in c.codes-codes.result.now) c.args.line.now _ c.first_answer.new.work.found
+    says_each c.args.plan.now (patterns_in c.args.patterns.now) c.args.line.now _ c.first_answer.new.work.found
     c.later.new.work.found c.in-Found.place v c.clear.ensures (sym c.shows_each.ensures ∙ c.if-shows_each.true)
-    (restated _ _ _ _ _ _ _ _ _ c.args.line.now 0 (patterns_in c.codes-codes.result.now) c.as_slice-wanted.ensures
-    c.limits.ensures c.in-Found.is c.in_ok-first_answer.ensures.answer) more))
+    (restated _ _ _ _ _ _ _ _ _ c.args.line.now 0 (patterns_in c.args.patterns.now) c.as_slice-wanted.ensures
+    c.limits.ensures c.in-Found.is c.in_ok-first_answer.ensures.answer) more)
     c.later.ensures
 
 pub returns-else-shows_each : goal.returns-else-shows_each
 returns-else-shows_each c =
-    subst (λ d. IsVerdict c.args.plan.now.only_matching (length c.args.line.now) c.first_answer.new.work.found
-    verdict.Match (matches c.args.plan.now (patterns_in d) c.args.line.now)) c.codes-codes.ensures
-    (says_one c.args.plan.now (patterns_in c.codes-codes.result.now) c.args.line.now _ c.first_answer.new.work.found
+    says_one c.args.plan.now (patterns_in c.args.patterns.now) c.args.line.now _ c.first_answer.new.work.found
     c.in-Found.place c.clear.ensures (sym c.shows_each.ensures ∙ c.if-shows_each.false)
-    (restated _ _ _ _ _ _ _ _ _ c.args.line.now 0 (patterns_in c.codes-codes.result.now) c.as_slice-wanted.ensures
-    c.limits.ensures c.in-Found.is c.in_ok-first_answer.ensures.answer))
+    (restated _ _ _ _ _ _ _ _ _ c.args.line.now 0 (patterns_in c.args.patterns.now) c.as_slice-wanted.ensures
+    c.limits.ensures c.in-Found.is c.in_ok-first_answer.ensures.answer)

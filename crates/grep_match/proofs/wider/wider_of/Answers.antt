@@ -1,7 +1,4 @@
-use Rattle.std.proofs.Common.{List, subst}
-use Rattle.pcre2_api.specs.Compiled.{CodeParts}
 use Rattle.grep_match.specs.Compiled.{patterns_in}
-use Rattle.grep_match.specs.Wider.{NoneMatches, SomeMatches}
 use Rattle.grep_match.proofs.Widening.{are_wider}
 use Rattle.grep_match.proofs.Finding.{are_exact, as_wide}
 use Rattle.grep_match.proofs.wider.wider_of.Goals as goal
@@ -13,8 +10,7 @@ returns-in-Ok-Some-clause-wider c =
     c.for_plan.ensures.most c.for_plan.ensures.utf
     (are_wider c.args.plan.now c.limits-matching.result (patterns_in c.args.patterns.now) wider
     c.limits-matching.ensures
-    (subst (λ (codes : List CodeParts). NoneMatches c.limits-matching.result (patterns_in codes) wider)
-    c.codes.ensures (rw c.in-Ok-Some.field-0-is at (rw c.in-Ok-Some.is at c.wider_within.ensures.misses))))
+    (rw c.in-Ok-Some.field-0-is at (rw c.in-Ok-Some.is at c.wider_within.ensures.misses)))
 
 pub returns-in-Ok-Some-clause-exact : goal.returns-in-Ok-Some-clause-exact
 returns-in-Ok-Some-clause-exact c = λ on.
@@ -22,6 +18,5 @@ returns-in-Ok-Some-clause-exact c = λ on.
     are_exact c.args.plan.now c.limits-matching.result (patterns_in c.args.patterns.now) wider c.for_plan.result
     c.limits-matching.ensures c.for_plan.ensures.hir c.for_plan.ensures.most c.for_plan.ensures.utf
     (c.for_plan.ensures.first on)
-    (subst (λ (codes : List CodeParts). SomeMatches c.limits-matching.result (patterns_in codes) wider)
-    c.codes.ensures ((rw c.in-Ok-Some.field-0-is at (rw c.in-Ok-Some.is at c.wider_within.ensures.finds))
-    (c.for_plan.ensures.exact on)))
+    ((rw c.in-Ok-Some.field-0-is at (rw c.in-Ok-Some.is at c.wider_within.ensures.finds))
+    (c.for_plan.ensures.exact on))

@@ -17,7 +17,7 @@ returns-in-Found-clause-gives c =
     c.args.work.now.found c.first_answer.new.work.found c.block_with.new.work.found c.args.from.at c.in-Found.place
     block (sym c.requires.search.bad ∙ c.requires.good) refl c.requires.empty
     (answered _ _ _ _ _ _ _ _ _ s.text.now c.args.from.at _ _ c.as_slice-wanted.ensures c.limits-options.ensures
-    c.in-Found.is c.codes-codes.ensures c.in_ok-place.ensures.answer)
+    c.in-Found.is refl c.in_ok-place.ensures.answer)
     taken far)
     c.block_with.ensures.behind c.block_with.ensures.taken
 
@@ -28,7 +28,7 @@ returns-in-Nothing-clause-gives c =
     c.args.work.now.found c.first_answer.new.work.found c.args.from.at
     (sym c.requires.search.bad ∙ c.requires.good) refl c.requires.empty c.requires.few
     (answered _ _ _ _ _ _ _ _ _ s.text.now c.args.from.at _ _ c.as_slice-wanted.ensures c.limits-options.ensures
-    c.in-Nothing.is c.codes-codes.ensures c.in_ok-place.ensures.answer)
+    c.in-Nothing.is refl c.in_ok-place.ensures.answer)
 
 pub returns-in-Error-clause-gives : goal.returns-in-Error-clause-gives
 returns-in-Error-clause-gives c =
@@ -38,5 +38,5 @@ returns-in-Error-clause-gives c =
     c.args.work.now.found c.first_answer.new.work.found c.args.from.at _
     (sym c.requires.search.bad ∙ c.requires.good) refl c.requires.few
     (answered _ _ _ _ _ _ _ _ _ s.text.now c.args.from.at _ _ c.as_slice-wanted.ensures c.limits-options.ensures
-    (c.in-Error.is ∙ ap told.Error (sym (to_z-of_z w32 c.in-Error.n fits))) c.codes-codes.ensures
+    (c.in-Error.is ∙ ap told.Error (sym (to_z-of_z w32 c.in-Error.n fits))) refl
     c.in_ok-place.ensures.answer)

@@ -1,4 +1,4 @@
-use Rattle.std.proofs.Common.{◌∙◌, sym, ap, arith, rules}
+use Rattle.std.proofs.Common.{◌∙◌, sym, ap, refl, arith, rules}
 use Rattle.std.proofs.lemmas.Int.{to_z-of_z}
 use mir.Syntax.{w32}
 use mir.Val.{SFits}
@@ -30,7 +30,7 @@ loop-turn-preserved c =
     let lines = lines_at s.kind s.text.now c.args.line.behind in
     let answer =
     answered _ _ _ _ _ _ _ _ _ s.text.now c.loop-turn.start _ _ c.as_slice-wanted.ensures
-    (ap not_empty c.limits.ensures) c.in-Found.is c.codes-codes.ensures c.in_ok-place.ensures.answer in
+    (ap not_empty c.limits.ensures) c.in-Found.is refl c.in_ok-place.ensures.answer in
     record {
       begun = found_within _ _ _ _ c.in-Found.place _ answer;
       behind = behind-then s.text.now c.args.line c.loop-turn.reach c.extend-reach-in-Found.result i.behind
@@ -66,7 +66,7 @@ returns-in-Nothing-clause-taken c = λ row o ends number is lists.
     c.first_answer.new.work.found (omega arith)
     (λ l stands. sym c.if-is_past.false ∙ c.is_past.ensures l stands)
     (answered _ _ _ _ _ _ _ _ _ s.text.now c.loop-turn.start _ _ c.as_slice-wanted.ensures
-    (ap not_empty c.limits.ensures) c.in-Nothing.is c.codes-codes.ensures c.in_ok-place.ensures.answer))
+    (ap not_empty c.limits.ensures) c.in-Nothing.is refl c.in_ok-place.ensures.answer))
 
 pub returns-in-Error-clause-taken : goal.returns-in-Error-clause-taken
 returns-in-Error-clause-taken c = λ row o ends number is lists.
@@ -83,7 +83,7 @@ returns-in-Error-clause-taken c = λ row o ends number is lists.
     (reaches-first s.kind s.text.now row line ends number)
     (answered _ _ _ _ _ _ _ _ _ s.text.now c.loop-turn.start _ _ c.as_slice-wanted.ensures
     (ap not_empty c.limits.ensures) (c.in-Error.is ∙ ap told.Error (sym (to_z-of_z w32 c.in-Error.n fits)))
-    c.codes-codes.ensures c.in_ok-place.ensures.answer))
+    refl c.in_ok-place.ensures.answer))
 
 pub returns-clause-taken : goal.returns-clause-taken
 returns-clause-taken c = λ row o ends number is lists.
