@@ -89,6 +89,8 @@ REASONS = {
     "match": (
         ("PCRE2 answers -999, which is a number of its insides.",
          lambda p, o, s, at, m, x, y: x[0] == -999 and b"(*ACCEPT)" in p),
+        ("NOTEMPTY: an empty match by an ACCEPT in an atomic group is refused: PCRE2 goes on in the group.",
+         lambda p, o, s, at, m, x, y: m & NOT_EMPTY and b"(*ACCEPT)" in p and re.search(rb"\(\?>|[*+?}]\+", p)),
         ("PCRE2 doesn't go back into a call of the whole pattern.",
          lambda p, o, s, at, m, x, y: b"(?R)" in p),
     ),
