@@ -332,7 +332,7 @@ fn late(watch: &Watch, patterns: &Patterns) -> u64 {
     if watch.needed.is_some() {
         return LATE;
     }
-    let many = patterns.codes().len() as u64;
+    let many = patterns.len() as u64;
     (LATE / many.max(1)).max(SOON)
 }
 
