@@ -24,7 +24,7 @@ use crate::pattern_files::{add_files, own_texts};
 use crate::streams::Streams;
 use crate::sum::{Sum, added, status_of, write_last};
 use grep_args::{ArgError, GrepPlan, HelpKind, NameMode, UsageKind, read};
-use grep_core::{GrepState, PatternError, Patterns, Stop};
+use grep_core::{GrepState, PatternError, Patterns, Stop, filter_by, sieve_for};
 use grep_targets::{FilterError, NameFilter, targets, word_path};
 use pat_tree::TextList;
 use pcre_io::{FileSet, Sink, Source};
@@ -55,6 +55,8 @@ fn sum_listed<F: FileSet, S: Source, O: Sink, E: Sink>(
     ensures files { (F.tells io.new.files.now).contents ≡ (F.tells io.old.files.now).contents }
     ensures later { (F.tells io.old.files.now).faults ≤ (F.tells io.new.files.now).faults }
 {
+    let sieve = sieve_for(alloc, plan, patterns, list.len());
+    let mut filter = filter_by(alloc, &sieve);
     let mut state = GrepState::new(alloc);
     let mut sum = Sum {
         has_failed: false,
@@ -62,7 +64,7 @@ fn sum_listed<F: FileSet, S: Source, O: Sink, E: Sink>(
         total: 0,
     };
     for target in list {
-        let end = grep_target(alloc, patterns, plan, target, io, &mut state)?;
+        let end = grep_target(alloc, patterns, plan, target, io, &mut state, &mut filter)?;
         sum = added(plan, sum, end);
     }
     Ok(sum)

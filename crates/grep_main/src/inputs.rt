@@ -1,5 +1,6 @@
 //! The targets of a search, one by one.
-ghost use Rattle.std.specs.Prelude.{◌≡◌, ◌≤◌, ◌<◌, ◌∷◌, [], false, not, Option};
+ghost use Rattle.std.specs.Prelude.{◌≡◌, ◌≤◌, ◌<◌, ◌∷◌, [], false, not, Option, IfSome};
+ghost use Rattle.grep_core.specs.grep_watch.Filtered.{Filters};
 ghost use Rattle.pcre_io.specs.Told.{Kept};
 ghost use Rattle.line_feed.specs.Rows.{Input};
 ghost use Rattle.tool_io.specs.Absent.{AbsentBy};
@@ -20,7 +21,7 @@ ghost use Rattle.tool_io.specs.Texts.{text_if};
 
 use crate::streams::Streams;
 use grep_args::GrepPlan;
-use grep_core::{FileEnd, GrepState, Patterns, Stop, grep_file, write_message};
+use grep_core::{FileEnd, Filter, GrepState, Patterns, Stop, grep_file_by, write_message};
 use pcre_io::{FileSet, IoError, MemSource, Sink, Source};
 use std::alloc::Global;
 use tool_io::Target;
@@ -35,9 +36,12 @@ fn grep_standard<S: Source, O: Sink, E: Sink>(
     out: &mut O,
     err: &mut E,
     state: &mut GrepState,
+    filter: &mut Option<Filter<'_>>,
 ) -> Result<FileEnd, Stop>
-    requires { IsReady plan.now state.old }
-    ensures { (left : Input) × IsLeft is_used.old is_used.new (S.tells input.old)
+    requires ready { IsReady plan.now state.old }
+    requires filter { IfSome filter.old (Filters plan.now (patterns_in patterns.now)) }
+    ensures filter { IfSome filter.new (Filters plan.now (patterns_in patterns.now)) }
+    ensures greps { (left : Input) × IsLeft is_used.old is_used.new (S.tells input.old)
         (S.tells input.new) left
         × GrepsTo (input_text plan.now (patterns_in patterns.now) plan.now.label state.old left)
         state.new
@@ -50,10 +54,10 @@ fn grep_standard<S: Source, O: Sink, E: Sink>(
     let name = plan.label.as_str();
     if *is_used {
         let mut empty = MemSource::new(Vec::new(alloc), None, 1);
-        return grep_file(patterns, plan, name, &mut empty, out, err, state);
+        return grep_file_by(patterns, plan, name, &mut empty, out, err, state, filter);
     }
     *is_used = true;
-    grep_file(patterns, plan, name, input, out, err, state)
+    grep_file_by(patterns, plan, name, input, out, err, state, filter)
 }
 
 // Says why a target isn't searched.
@@ -83,8 +87,11 @@ fn grep_named<F: FileSet, O: Sink, E: Sink>(
     out: &mut O,
     err: &mut E,
     state: &mut GrepState,
+    filter: &mut Option<Filter<'_>>,
 ) -> Result<Option<FileEnd>, Stop>
-    requires { IsReady plan.now state.old }
+    requires ready { IsReady plan.now state.old }
+    requires filter { IfSome filter.old (Filters plan.now (patterns_in patterns.now)) }
+    ensures filter { IfSome filter.new (Filters plan.now (patterns_in patterns.now)) }
     ensures reports { let before = F.tells files.old in let after = F.tells files.new in
         (given : Option Input) × Opened before.contents name.now given
         × ReportsTo (report_on plan.now (patterns_in patterns.now) state.old
@@ -99,7 +106,7 @@ fn grep_named<F: FileSet, O: Sink, E: Sink>(
 {
     match files.open_file(alloc, name) {
         Ok(mut source) => {
-            let end = grep_file(patterns, plan, name, &mut source, out, err, state)?;
+            let end = grep_file_by(patterns, plan, name, &mut source, out, err, state, filter)?;
             Ok(Some(end))
         }
         Err(IoError::Failed) => pass_over(plan, name, b"cannot be opened", err),
@@ -115,8 +122,11 @@ pub fn grep_target<F: FileSet, S: Source, O: Sink, E: Sink>(
     target: &Target,
     io: &mut Streams<F, S, O, E>,
     state: &mut GrepState,
+    filter: &mut Option<Filter<'_>>,
 ) -> Result<Option<FileEnd>, Stop>
-    requires { IsReady plan.now state.old }
+    requires ready { IsReady plan.now state.old }
+    requires filter { IfSome filter.old (Filters plan.now (patterns_in patterns.now)) }
+    ensures filter { IfSome filter.new (Filters plan.now (patterns_in patterns.now)) }
     ensures reports { ReportsTarget plan.now (patterns_in patterns.now) target.now
         (searching (inputs (F.tells io.old.files.now) (S.tells io.old.input.now) io.old.is_used)
         state.old (printed (O.tells io.old.out.now) (E.tells io.old.err.now)))
@@ -138,6 +148,7 @@ pub fn grep_target<F: FileSet, S: Source, O: Sink, E: Sink>(
                 io.out,
                 io.err,
                 state,
+                filter,
             )?;
             Ok(Some(end))
         }
@@ -151,6 +162,7 @@ pub fn grep_target<F: FileSet, S: Source, O: Sink, E: Sink>(
                 io.out,
                 io.err,
                 state,
+                filter,
             )
         }
         Target::NoOpen(name) => pass_over(plan, name.as_str(), b"cannot be opened", io.err),

@@ -23,10 +23,11 @@ loop-target-init g c = record {
   streams = (refl, refl, refl, refl);
   files = refl;
   later = omega arith;
+  filter = c.filter_by-filter.ensures c.args.plan.now (patterns_in c.args.patterns.now) c.sieve_for-sieve.ensures;
 }
 
-pub grep_target-requires : goal.grep_target-requires
-grep_target-requires g c =
+pub grep_target-requires-clause-ready : goal.grep_target-requires-clause-ready
+grep_target-requires-clause-ready g c =
     let had = c.loop-target.invariant in
     let same = had.searched.total in
     let few = had.total in
@@ -120,6 +121,7 @@ loop-target-preserved g c =
           (one.0 ∙ before.0, one.1 ∙ before.1, one.2 ∙ before.2, one.3 ∙ before.3);
       files = c.in_ok-end.ensures.files ∙ had.files;
       later = let one = c.in_ok-end.ensures.later in let before = had.later in omega (arith, one, before);
+      filter = c.in_ok-end.ensures.filter;
     }
 
 pub returns-clause-sums : goal.returns-clause-sums

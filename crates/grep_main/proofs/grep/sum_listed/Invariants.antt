@@ -1,5 +1,6 @@
-use Rattle.std.proofs.Common.{◌≡◌, ◌≤◌, ◌*◌, ◌^◌, take}
+use Rattle.std.proofs.Common.{◌≡◌, ◌≤◌, ◌*◌, ◌^◌, take, IfSome}
 use Rattle.grep_core.specs.grep_match.Compiled.{patterns_in}
+use Rattle.grep_core.specs.grep_watch.Filtered.{Filters}
 use Rattle.grep_main.specs.Leaves.{LeavesUnasked}
 use Rattle.grep_main.specs.Stages.{AreSame}
 use Rattle.grep_main.proofs.Summing.{Searched}
@@ -19,4 +20,5 @@ invariant-loop-target g l = record {
   streams : AreSame l.initial.io l.io;
   files : (g.F.FileSet.tells l.io.files.now).contents ≡ (g.F.FileSet.tells l.initial.io.files.now).contents;
   later : (g.F.FileSet.tells l.initial.io.files.now).faults ≤ (g.F.FileSet.tells l.io.files.now).faults;
+  filter : IfSome l.filter (Filters l.plan (patterns_in l.patterns));
 }

@@ -17,18 +17,18 @@ returns-in_err-end-in-Ok-clause-reports g c =
     let patterns = patterns_in c.args.patterns.now in
     let s = c.args.state.now in
     let name = c.args.name.now in
-    let greps = c.in_err-end-in-Ok.ensures in
+    let greps = c.in_err-end-in-Ok.ensures.greps in
     let stop = c.in_err-end-in-Ok.field-0.0 in
     let same : c.from_residual.result ≡ Err stop = search rules in (
       Some greps.heard,
       opened-heard (g.F.FileSet.tells c.args.files.now).contents name (g.F.Src.Source.tells c.in-Ok.source)
-          (g.F.Src.Source.tells c.grep_file.new.source) greps.heard c.in-Ok.ensures.opened greps.hears,
-      subst (ReportsTo (report_on plan patterns s (targets.File name) (Some greps.heard)) s c.grep_file.new.state
+          (g.F.Src.Source.tells c.grep_file_by.new.source) greps.heard c.in-Ok.ensures.opened greps.hears,
+      subst (ReportsTo (report_on plan patterns s (targets.File name) (Some greps.heard)) s c.grep_file_by.new.state
           (printed (g.O.Sink.tells c.args.out.now) (g.E.Sink.tells c.args.err.now))
-          (printed (g.O.Sink.tells c.grep_file.new.out) (g.E.Sink.tells c.grep_file.new.err))) (sym same)
-          (reports-scanned plan patterns s c.grep_file.new.state (targets.File name) greps.heard
+          (printed (g.O.Sink.tells c.grep_file_by.new.out) (g.E.Sink.tells c.grep_file_by.new.err))) (sym same)
+          (reports-scanned plan patterns s c.grep_file_by.new.state (targets.File name) greps.heard
           (printed (g.O.Sink.tells c.args.out.now) (g.E.Sink.tells c.args.err.now))
-          (printed (g.O.Sink.tells c.grep_file.new.out) (g.E.Sink.tells c.grep_file.new.err)) (Err stop)
+          (printed (g.O.Sink.tells c.grep_file_by.new.out) (g.E.Sink.tells c.grep_file_by.new.err)) (Err stop)
           greps.greps),
       absent-there (g.F.FileSet.tells c.args.files.now).contents (g.F.FileSet.tells c.args.files.now).faults
           (g.F.FileSet.tells c.open_file.new.self).faults (targets.File name) greps.heard,
@@ -36,10 +36,10 @@ returns-in_err-end-in-Ok-clause-reports g c =
 
 pub returns-in_ok-end-in-Ok-clause-reports : goal.returns-in_ok-end-in-Ok-clause-reports
 returns-in_ok-end-in-Ok-clause-reports g c =
-    let greps = c.in_ok-end-in-Ok.ensures in (
+    let greps = c.in_ok-end-in-Ok.ensures.greps in (
       Some greps.heard,
       opened-heard (g.F.FileSet.tells c.args.files.now).contents c.args.name.now (g.F.Src.Source.tells c.in-Ok.source)
-          (g.F.Src.Source.tells c.grep_file.new.source) greps.heard c.in-Ok.ensures.opened greps.hears,
+          (g.F.Src.Source.tells c.grep_file_by.new.source) greps.heard c.in-Ok.ensures.opened greps.hears,
       greps.greps,
       absent-there (g.F.FileSet.tells c.args.files.now).contents (g.F.FileSet.tells c.args.files.now).faults
           (g.F.FileSet.tells c.open_file.new.self).faults (targets.File c.args.name.now) greps.heard,

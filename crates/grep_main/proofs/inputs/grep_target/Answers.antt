@@ -19,7 +19,7 @@ returns-in_err-end-in-Input-clause-reports g c =
     let s_new = c.grep_standard.new.state in
     let old = printed (g.O.Sink.tells c.args.io.now.out.now) (g.E.Sink.tells c.args.io.now.err.now) in
     let new = printed (g.O.Sink.tells c.grep_standard.new.out) (g.E.Sink.tells c.grep_standard.new.err) in
-    let greps = c.in_err-end-in-Input.ensures in
+    let greps = c.in_err-end-in-Input.ensures.greps in
     let stop = c.in_err-end-in-Input.field-0.0 in
     let same : c.from_residual.result ≡ Err stop = search rules in
     let count = (g.F.FileSet.tells c.args.io.now.files.now).faults in
@@ -35,7 +35,7 @@ returns-in_ok-end-in-Input-clause-reports g c =
     let after = g.S.Source.tells c.grep_standard.new.input in
     let old = printed (g.O.Sink.tells c.args.io.now.out.now) (g.E.Sink.tells c.args.io.now.err.now) in
     let new = printed (g.O.Sink.tells c.grep_standard.new.out) (g.E.Sink.tells c.grep_standard.new.err) in
-    let greps = c.in_ok-end-in-Input.ensures in
+    let greps = c.in_ok-end-in-Input.ensures.greps in
     let count = (g.F.FileSet.tells c.args.io.now.files.now).faults in
     target-standard c.args.plan.now (patterns_in c.args.patterns.now) c.args.target.now contents count count
     c.args.state.now c.grep_standard.new.state old new c.args.io.now.is_used c.grep_standard.new.is_used before
