@@ -1,3 +1,14 @@
 pub mod Numbers
 pub mod Turns
 pub mod Steps
+pub mod Forms
+pub mod Sorting
+pub mod Bits
+pub mod TableForms
+pub mod NodeForms
+pub mod NodeRules
+pub mod ImageForms
+pub mod Trees
+pub mod Piles
+pub mod Stacks
+pub mod Loops

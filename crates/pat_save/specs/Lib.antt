@@ -1,4 +1,11 @@
 pub mod Fields
 pub mod Image
 pub mod Checked
+pub mod Reading
+pub mod Pile
+pub mod ReadTables
+pub mod ReadNodes
+pub mod ReadImage
+pub mod Grown
+pub mod Sized
 pub mod Rows

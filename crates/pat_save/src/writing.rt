@@ -13,7 +13,7 @@ use pat_tree::Memory;
 use std::alloc::Global;
 
 /// The most bytes of an image: 16 MB.
-const LARGEST: usize = 16_777_216;
+pub(crate) const LARGEST: usize = 16_777_216;
 
 fn put_text(out: &mut Vec<u8>, text: &[u8]) -> Result<(), Memory>
     requires { length text.now ≤ 65536 }
