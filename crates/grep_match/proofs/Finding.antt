@@ -168,12 +168,13 @@ module _ (options : Options) (matching : MatchOptions) (codes : List Kept) (i : 
   ]
 
   told_more : (line : List ℕ) → IsSearched most utf line → (behind line (i + 1) ≡ whole line) ⊎ IsFound (whole line)
-  told_more line s = by_answer (decided (pattern_in options code) matching most (meaning hir) misses exact line (record {
-    short = s.short;
-    small = s.small;
-    whole = s.whole;
-    checked = checked_one line s.checked;
-  }))
+  told_more line s = by_answer (decided (pattern_in options code) matching most (meaning hir) misses exact line
+      (record {
+        short = s.short;
+        small = s.small;
+        whole = s.whole;
+        checked = checked_one line s.checked;
+      }))
     where
       by_answer : IsTold (pattern_answer matching line 0 (pattern_in options code))
           → (behind line (i + 1) ≡ whole line) ⊎ IsFound (whole line)
@@ -216,9 +217,11 @@ module _ (options : Options) (matching : MatchOptions) (codes : List Kept) (i : 
   pub next_some : FirstMatchSome options matching codes most all utf (i + 1)
   next_some = record { told = told_more; finds = finds_more }
 
-pub all_some : (options : Options) (matching : MatchOptions) (codes : List Kept) (i : ℕ) (wider : Wider) (hirs : List Hir)
+pub all_some : (options : Options) (matching : MatchOptions) (codes : List Kept) (i : ℕ) (wider : Wider)
+    (hirs : List Hir)
     → meaning wider.hir ≡ branches hirs
-    → FirstMatchSome options matching codes wider.most hirs wider.utf i → SomeMatches matching (meant options codes) wider
+    → FirstMatchSome options matching codes wider.most hirs wider.utf i
+    → SomeMatches matching (meant options codes) wider
 all_some options matching codes i wider hirs is first before line after h =
     first.finds before line after (subst (λ re. HasMatch re wider.most wider.utf before line after) is h)
 

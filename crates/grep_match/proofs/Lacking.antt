@@ -51,7 +51,8 @@ one_none matching line p ps e = rw (e, first_answer) refl
 
 pub next_none : (options : Options) (matching : MatchOptions) (codes : List Kept) (i : ℕ) (kept : Kept)
     (code : CodeParts) (all some : Needed) (more : List (List Bool))
-    → i < length codes → kept ≡ get_or codes i kept → pattern_in options kept ≡ pattern_of code.tree → FindsNone code matching all.most more
+    → i < length codes → kept ≡ get_or codes i kept → pattern_in options kept ≡ pattern_of code.tree
+    → FindsNone code matching all.most more
     → AreUnions (sets_of all.text) (sets_of some.text) more → some.most ≡ all.most
     → all.utf ≡ (some.utf || code.tree.options.utf)
     → FirstFindNone options matching codes some i → FirstFindNone options matching codes all (i + 1)

@@ -269,7 +269,8 @@ module _ (lines : Bool) (newline : Newline) (bs : List ℕ) where
 
   starts : started pattern (length pattern + 1) (start (bytewise lines newline)) ≡ Ok (st lines newline pattern 0)
   starts = let one : length pattern + 1 ≡ suc (length pattern) = omega arith in
-      ap (λ n. started pattern n (start (bytewise lines newline))) one ∙ unstarted lines newline pattern bs (length pattern) refl
+      ap (λ n. started pattern n (start (bytewise lines newline))) one
+      ∙ unstarted lines newline pattern bs (length pattern) refl
 
 pub spelt-read : (lines : Bool) (newline : Newline) (text : List ℕ) → length text ≤ 32768
     → read (bytewise lines newline) (flat_map escaped text) ≡ Ok (read_of lines newline text)

@@ -70,8 +70,10 @@ pub next_misses : (options : Options) (matching : MatchOptions) (codes : List Ke
     (hirs all : List Hir) (hir : Hir) (some utf : Bool)
     → i < length codes → code ≡ get_or codes i code → Misses (pattern_in options code) matching most (meaning hir)
     → all ≡ hirs ++ hir ∷ [] → utf ≡ (some || (pattern_in options code).options.utf)
-    → FirstMatchNone options matching codes most hirs some i → FirstMatchNone options matching codes most all utf (i + 1)
-next_misses options matching codes i code most hirs all hir some utf within is misses joined both first before line after
+    → FirstMatchNone options matching codes most hirs some i
+    → FirstMatchNone options matching codes most all utf (i + 1)
+next_misses options matching codes i code most hirs all hir some utf within is misses joined both first before line
+    after
     lacks =
     let checked = subst (λ b. IsChecked b line) both lacks.checked in
     let none_begins = subst (λ hs. (i j : ℕ) → length before ≤ i → i ≤ length before + length line → ¬ Matches
@@ -95,9 +97,11 @@ next_misses options matching codes i code most hirs all hir some utf within is m
     ∙ one_none matching line (pattern_in options code) (meant options (drop (i + 1) codes)) here)
     ∙ first before line after fewer
 
-pub all_miss : (options : Options) (matching : MatchOptions) (codes : List Kept) (i : ℕ) (wider : Wider) (hirs : List Hir)
+pub all_miss : (options : Options) (matching : MatchOptions) (codes : List Kept) (i : ℕ) (wider : Wider)
+    (hirs : List Hir)
     → length codes ≤ i → meaning wider.hir ≡ branches hirs
-    → FirstMatchNone options matching codes wider.most hirs wider.utf i → NoneMatches matching (meant options codes) wider
+    → FirstMatchNone options matching codes wider.most hirs wider.utf i
+    → NoneMatches matching (meant options codes) wider
 all_miss options matching codes i wider hirs past is first before line after lacks =
     sym (first before line after (subst (λ re. LacksMatch re wider.most wider.utf before line after) is lacks))
     ∙ ap (λ l. first_answer matching line 0 (meant options l)) (drop_all i codes past)

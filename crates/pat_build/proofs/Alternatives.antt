@@ -108,7 +108,8 @@ has_other asserting [] t u k h = k
 has_other asserting (x ∷ ts) t u k h = h
 has_other _ ts t u k h = tt
 
-pub tests_other : (os : List Opened) (ts : List Nested) (t u : Nested) → IsTrue (is_test u) → HaveTests os (ts ++ t ∷ [])
+pub tests_other : (os : List Opened) (ts : List Nested) (t u : Nested) → IsTrue (is_test u)
+    → HaveTests os (ts ++ t ∷ [])
     → HaveTests os (ts ++ u ∷ [])
 tests_other [] ts t u k h = tt
 tests_other (o ∷ os) ts t u k h = (has_other o.how.form ts t u k h.0, h.1, h.2)

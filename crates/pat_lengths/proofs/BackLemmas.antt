@@ -95,6 +95,7 @@ pub most_kept : (x : SomeLengths) → (back_of (kept x)).most ≡ length_of x
 most_kept None = refl
 most_kept (Some a) = by_most a.least a.most
   where
-    by_most : (least : ℕ) (most : Option ℕ) → (back_of (kept (between least most))).most ≡ length_of (between least most)
+    by_most : (least : ℕ) (most : Option ℕ) → (back_of (kept (between least most))).most ≡ length_of
+        (between least most)
     by_most least None = refl
     by_most least (Some most) = refl

@@ -1,5 +1,6 @@
 -- Where nothing in a tree names a group, the groups' lengths don't count.
-use Rattle.std.proofs.Common.{◌≡◌, ◌∙◌, ℕ, ◌<◌, ◌++◌, ◌||◌, Bool, true, false, List, [], ◌∷◌, All, flat_map, refl, sym, ap, subst}
+use Rattle.std.proofs.Common.{◌≡◌, ◌∙◌, ℕ, ◌<◌, ◌++◌, ◌||◌, Bool, true, false, List, [], ◌∷◌, All, flat_map, refl}
+use Rattle.std.proofs.Common.{sym, ap, subst}
 use Rattle.std.specs.List.{list_any}
 use Rattle.std.proofs.lemmas.Grind.{flat_map-append}
 use Rattle.std.proofs.lemmas.List.Elements.{All-cons, All-head, All-nil, All-tail}
@@ -10,9 +11,11 @@ use Rattle.pat_tree.specs.Nested as tree
 use Rattle.pat_tree.specs.Nested.{Nested, Row, Test, Other, nest, tree_at}
 use Rattle.pat_tree.specs.Rules.{kids_of, asserted_by, is_test}
 use Rattle.pat_lengths.specs.Leading.{names_of}
-use Rattle.pat_lengths.specs.Lengths.{SomeLengths, any_length, either, in_turn, in_turns, lengths, lengths_in_turn, lengths_of_one}
+use Rattle.pat_lengths.specs.Lengths.{SomeLengths, any_length, either, in_turn, in_turns, lengths, lengths_in_turn}
+use Rattle.pat_lengths.specs.Lengths.{lengths_of_one}
 use Rattle.pat_lengths.specs.Lengths.{lengths_of_other, of_ref, of_test}
-use Rattle.pat_lengths.specs.Nodes.{has_shared_number, named_by, named_in, nodes, nodes_in, nodes_of_other, nodes_of_test}
+use Rattle.pat_lengths.specs.Nodes.{has_shared_number, named_by, named_in, nodes, nodes_in, nodes_of_other}
+use Rattle.pat_lengths.specs.Nodes.{nodes_of_test}
 use Rattle.pat_lengths.proofs.KidLemmas.{named_first}
 use Rattle.pat_lengths.proofs.OrderLemmas.{node_first, nodes_at}
 use Rattle.pat_lengths.proofs.RoundLemmas.{nothing_named}

@@ -1,9 +1,11 @@
 -- Rings of nodes tell which groups lead back to themselves.
 use Rattle.std.proofs.Common.{◌≡◌, ◌∙◌, ◌⊎◌, ℕ, zero, suc, ◌+◌, ◌<◌, ◌≤◌, ◌||◌, ◌==◌, nat_le, nat_lt, Bool, true}
-use Rattle.std.proofs.Common.{false, List, [], ◌∷◌, ◌++◌, All, length, get_or, replicate, take, Option, Some, None, inl, inr, refl, sym}
+use Rattle.std.proofs.Common.{false, List, [], ◌∷◌, ◌++◌, All, length, get_or, replicate, take, Option, Some, None}
+use Rattle.std.proofs.Common.{inl, inr, refl, sym}
 use Rattle.std.proofs.Common.{ap, subst, arith}
 use Rattle.std.specs.List.{list_all, list_any, Contains}
-use Rattle.std.proofs.lemmas.Bool.{false≢true, and_parts, cases_eq, cases_lt, eq-eqb, eqb-true, leb-true, le-leb, or_cases}
+use Rattle.std.proofs.lemmas.Bool.{false≢true, and_parts, cases_eq, cases_lt, eq-eqb, eqb-true, leb-true, le-leb}
+use Rattle.std.proofs.lemmas.Bool.{or_cases}
 use Rattle.std.proofs.lemmas.Bool.{or_left, or_right}
 use Rattle.std.proofs.lemmas.List.{get_or_past, take_more}
 use Rattle.std.proofs.lemmas.List.Elements.{All-append, All-contains, All-cons, All-more, All-nil, All-weaker}
@@ -19,7 +21,8 @@ use Rattle.pat_lengths.specs.Passing.{flagged, IsAt, place_of}
 use Rattle.pat_lengths.specs.Rings.{AreRings, GoesDown, GoesUp, IsLed, IsNamed, LeadsOn, Marked, is_in_ring, is_later}
 use Rattle.pat_lengths.specs.Rings.{is_nearer, is_no_later, is_top, ring_at, spot, top, top_at}
 use Rattle.pat_lengths.specs.declared.rings.Rings.{Rings}
-use Rattle.pat_lengths.proofs.LeadingLemmas.{all_in, closed_by, found, in_range, leads_on, leads_start, no_group, nowhere}
+use Rattle.pat_lengths.proofs.LeadingLemmas.{all_in, closed_by, found, in_range, leads_on, leads_start, no_group}
+use Rattle.pat_lengths.proofs.LeadingLemmas.{nowhere}
 use Rattle.pat_lengths.proofs.PlainLemmas.{own_names}
 
 pub none_set : (n k : ℕ) → flagged (replicate n false) k ≡ false
@@ -239,7 +242,8 @@ module _ (whole : Nested) (trees : List Nested) (root : ℕ) (places : List (Opt
                 let names : named_by (tree_at trees k) ≡ names_of d.node = sym (ap named_by d.is)
                 ∙ own_names trees d.node in
                 let later : ring_at rings p ≤ ring_at rings k = leb-true (ring_at rings p) (ring_at rings k)
-                (All-contains (λ j. is_no_later rings k j ≡ true) (kids_of d.node ++ places_of places (names_of d.node)) p
+                (All-contains (λ j. is_no_later rings k j ≡ true)
+                (kids_of d.node ++ places_of places (names_of d.node)) p
                 d.down (Contains-append_right (kids_of d.node) (places_of places (names_of d.node)) p
                 (places_named places (names_of d.node) n p named e))) in
                 absurd (none k within (subst (λ xs. Contains xs n) (sym names) named) (omega (arith, later, le)))

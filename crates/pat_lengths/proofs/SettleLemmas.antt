@@ -13,7 +13,8 @@ use Rattle.pat_lengths.specs.Lengths.{named_in_group, names_of_group}
 use Rattle.pat_lengths.specs.Nodes.{captures}
 use Rattle.pat_lengths.specs.Spans.{kept, one_round, span_at}
 use Rattle.pat_lengths.specs.declared.spans.Span.{Span}
-use Rattle.pat_lengths.proofs.LeadingStable.{compare, full, leads, next, numbers_of_groups, one_if, reaches, so_many, tally}
+use Rattle.pat_lengths.proofs.LeadingStable.{compare, full, leads, next, numbers_of_groups, one_if, reaches, so_many}
+use Rattle.pat_lengths.proofs.LeadingStable.{tally}
 use Rattle.pat_lengths.proofs.LeadingStable.{there}
 use Rattle.pat_lengths.proofs.PlainLemmas.{same_by}
 use Rattle.pat_lengths.proofs.RoundLemmas.{lost}
@@ -185,7 +186,8 @@ module _ (whole : Nested) where
 
       none_named : (n : ℕ) → group_of whole n ≡ None → span_at of n ≡ kept (behind unset whole limit n)
       none_named n none =
-          round n (subst (λ o. All (λ x. span_at of x ≡ kept (behind unset whole limit x)) (named_in_group o)) (sym none)
+          round n (subst (λ o. All (λ x. span_at of x ≡ kept (behind unset whole limit x)) (named_in_group o))
+          (sym none)
           (All-nil (λ x. span_at of x ≡ kept (behind unset whole limit x)))) ∙ last_is n
 
       pub settled_at : (r n : ℕ) → rank n < r → span_at of n ≡ kept (behind unset whole limit n)

@@ -158,7 +158,8 @@ span_step unset whole trees root d n spans next places back count keep is at sam
 
 placed_round : (unset : Bool) (whole : Nested) (trees : List Nested) (root n : ℕ) (f : ℕ → SomeLengths)
     (P : ℕ → Type 0) (spans : List (Option Span)) (place : Option ℕ) (back : Bool) → length spans ≡ root + 1
-    → EachBy P (lengths unset whole f) trees spans → back ≡ leads_back whole n → IsAt trees root place (group_of whole n)
+    → EachBy P (lengths unset whole f) trees spans → back ≡ leads_back whole n
+    → IsAt trees root place (group_of whole n)
     → All P (names_of_group whole n) → span_in spans place back ≡ kept (one_round unset whole f n)
 placed_round unset whole trees root n f P spans place back count each is at names =
     here place back (leads_back whole n) is at

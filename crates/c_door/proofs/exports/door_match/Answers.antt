@@ -33,5 +33,6 @@ returns-clause-answer c =
     c.match_options_of-options.ensures of_engine in
     subst (λ h. IsHeld h
     (λ e. IsAnswer e.code.value (search_of e.code.value (match_options_of c.args.asked.now) c.args.subject.now
-    c.args.start (λ _. pos 0)) c.args.asked.now.offset_limit c.answer_of.result places mark)) (sym c.take-engine.ensures.taken)
+    c.args.start (λ _. pos 0)) c.args.asked.now.offset_limit c.answer_of.result places mark))
+    (sym c.take-engine.ensures.taken)
     (told, of_options, c.answer_of.ensures ∙ ap answer_of c.limited.ensures)

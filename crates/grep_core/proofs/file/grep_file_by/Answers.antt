@@ -35,11 +35,13 @@ scanned g c =
 
 pub returns-in_err-write_end-in-Ok-clause-greps : goal.returns-in_err-write_end-in-Ok-clause-greps
 returns-in_err-write_end-in-Ok-clause-greps g c =
-    greps-breaks (scanned g (goal.at.returns-in_err-write_end-in-Ok-clause-greps g c).After-scan_as) c.in-Ok.end c.in-Ok.is
+    greps-breaks (scanned g (goal.at.returns-in_err-write_end-in-Ok-clause-greps g c).After-scan_as) c.in-Ok.end
+    c.in-Ok.is
     c.in_err-write_end-in-Ok.field-0.0 c.from_residual-in_err-write_end-in-Ok.result (search rules)
     c.in_err-write_end-in-Ok.ensures
 
-pub returns-in_err-write_too_many-in-Err-TooManyErrors-clause-greps : goal.returns-in_err-write_too_many-in-Err-TooManyErrors-clause-greps
+pub returns-in_err-write_too_many-in-Err-TooManyErrors-clause-greps
+    : goal.returns-in_err-write_too_many-in-Err-TooManyErrors-clause-greps
 returns-in_err-write_too_many-in-Err-TooManyErrors-clause-greps g c =
     greps-untold (scanned g (goal.at.returns-in_err-write_too_many-in-Err-TooManyErrors-clause-greps g c).After-scan_as)
     (c.in-Err-TooManyErrors.is ∙ ap Err c.in-Err-TooManyErrors.field-0-is)

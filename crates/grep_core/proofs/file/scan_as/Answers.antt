@@ -14,7 +14,8 @@ returns-then-is_skipped-clause-scans g c before job stood =
 pub returns-in_err-new-clause-scans : goal.returns-in_err-new-clause-scans
 returns-in_err-new-clause-scans g c before job stood =
     let same : c.from_residual.result ≡ Err Memory = search rules in
-    scans-lacks (work_of c.args.job.now) c.args.scanner.now.state c.args.treatment before (g.S.Source.tells c.args.source.now)
+    scans-lacks (work_of c.args.job.now) c.args.scanner.now.state c.args.treatment before
+    (g.S.Source.tells c.args.source.now)
     c.args.scanner.now.feed
     (g.O.Sink.tells c.args.out.now) (g.E.Sink.tells c.args.err.now) c.from_residual.result same stood
 
@@ -26,7 +27,8 @@ returns-in_err-ended-clause-scans g c before job stood =
     let same : c.from_residual-in_err-ended.result ≡ Err stop = search rules in
     scans-whole (work_of job_is) c.args.scanner.now.state c.args.treatment c.scan-ended.new.course.selected
     c.counted-scanner.result c.scan-ended.new.scanner.state c.counted-scanner.ensures (Err stop) c.in_err-ended.was
-    c.from_residual-in_err-ended.result same other (c.scan-ended.ensures.scans before c.args.treatment (job other) stood)
+    c.from_residual-in_err-ended.result same other
+    (c.scan-ended.ensures.scans before c.args.treatment (job other) stood)
 
 pub returns-clause-scans : goal.returns-clause-scans
 returns-clause-scans g c before job stood =

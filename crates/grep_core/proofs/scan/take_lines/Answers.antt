@@ -45,7 +45,8 @@ returns-in_err-came-clause-taken g c = λ before treated job stood.
     let same : c.from_residual.result ≡ Err stop = search rules in
     subst
     (TakesAll (work_of job_is) job_is.most treated
-    (position (fed c.args.scanner.now.feed before) (progress c.args.course.now c.args.scanner.now.state (printed out err)))
+    (position (fed c.args.scanner.now.feed before)
+    (progress c.args.course.now c.args.scanner.now.state (printed out err)))
     (position (fed c.take_until.new.scanner.feed (g.S.Source.tells c.take_until.new.source))
     (progress c.take_until.new.course c.take_until.new.scanner.state
     (printed (g.O.Sink.tells c.take_until.new.out) (g.E.Sink.tells c.take_until.new.err)))))

@@ -30,7 +30,8 @@ returns-in-Seq c trees unset whole of_group tests any groups keep =
     let spans = c.args.spans.now in
     let kids = c.in-Seq.kids in
     let each : All (λ k. span_at spans k ≡ kept (lengths unset whole of_group (tree_at trees k))) kids =
-    subst (λ n. All (λ k. span_at spans k ≡ kept (lengths unset whole of_group (tree_at trees k))) (kids_of n)) c.in-Seq.is keep in
+    subst (λ n. All (λ k. span_at spans k ≡ kept (lengths unset whole of_group (tree_at trees k))) (kids_of n))
+    c.in-Seq.is keep in
     let turn = rw c.as_slice.ensures at
     (c.span_of_parts.ensures (λ k. lengths unset whole of_group (tree_at trees k))) in
     rw c.in-Seq.is
@@ -43,7 +44,8 @@ returns-in-Group c trees unset whole of_group tests any groups keep =
     let spans = c.args.spans.now in
     let kids = c.in-Group.branches in
     let each : All (λ k. span_at spans k ≡ kept (lengths unset whole of_group (tree_at trees k))) kids =
-    subst (λ n. All (λ k. span_at spans k ≡ kept (lengths unset whole of_group (tree_at trees k))) (kids_of n)) c.in-Group.is keep in
+    subst (λ n. All (λ k. span_at spans k ≡ kept (lengths unset whole of_group (tree_at trees k))) (kids_of n))
+    c.in-Group.is keep in
     let turn = rw c.as_slice-in-Group.ensures at
     (c.span_of_branches.ensures (λ k. lengths unset whole of_group (tree_at trees k))) in
     rw c.in-Group.is
@@ -56,7 +58,8 @@ returns-in-Atomic c trees unset whole of_group tests any groups keep =
     let spans = c.args.spans.now in
     let kids = c.in-Atomic.branches in
     let each : All (λ k. span_at spans k ≡ kept (lengths unset whole of_group (tree_at trees k))) kids =
-    subst (λ n. All (λ k. span_at spans k ≡ kept (lengths unset whole of_group (tree_at trees k))) (kids_of n)) c.in-Atomic.is keep in
+    subst (λ n. All (λ k. span_at spans k ≡ kept (lengths unset whole of_group (tree_at trees k))) (kids_of n))
+    c.in-Atomic.is keep in
     let turn = rw c.as_slice-in-Atomic.ensures at
     (c.span_of_branches-in-Atomic.ensures (λ k. lengths unset whole of_group (tree_at trees k))) in
     rw c.in-Atomic.is
@@ -69,7 +72,8 @@ returns-in-Repeat c trees unset whole of_group tests any groups keep =
     let spans = c.args.spans.now in
     let body = c.in-Repeat.body in
     let each : All (λ k. span_at spans k ≡ kept (lengths unset whole of_group (tree_at trees k))) (body ∷ []) =
-    subst (λ n. All (λ k. span_at spans k ≡ kept (lengths unset whole of_group (tree_at trees k))) (kids_of n)) c.in-Repeat.is keep in
+    subst (λ n. All (λ k. span_at spans k ≡ kept (lengths unset whole of_group (tree_at trees k))) (kids_of n))
+    c.in-Repeat.is keep in
     rw c.in-Repeat.is
     (c.in_turns.ensures (lengths unset whole of_group (tree_at trees body))
     (All-head (λ k. span_at spans k ≡ kept (lengths unset whole of_group (tree_at trees k))) body [] each))
@@ -85,9 +89,11 @@ returns-in-Cond c trees unset whole of_group tests any groups keep =
     let test = c.in-Cond.test in
     let first = c.in-Cond.yes in
     let second = c.in-Cond.no in
-    let each : All (λ k. span_at spans k ≡ kept (lengths unset whole of_group (tree_at trees k))) (first ∷ number_in second) =
+    let each : All (λ k. span_at spans k ≡ kept (lengths unset whole of_group (tree_at trees k)))
+    (first ∷ number_in second) =
     branches_all (λ k. span_at spans k ≡ kept (lengths unset whole of_group (tree_at trees k))) test first second
-    (subst (λ n. All (λ k. span_at spans k ≡ kept (lengths unset whole of_group (tree_at trees k))) (kids_of n)) c.in-Cond.is keep) in
+    (subst (λ n. All (λ k. span_at spans k ≡ kept (lengths unset whole of_group (tree_at trees k))) (kids_of n))
+    c.in-Cond.is keep) in
     let tested : All (λ k. is_test (tree_at trees k) ≡ true) (tests_of test) =
     subst (λ n. All (λ k. is_test (tree_at trees k) ≡ true) (asserted_by n)) c.in-Cond.is tests in
     rw c.in-Cond.is

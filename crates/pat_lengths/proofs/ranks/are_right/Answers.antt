@@ -14,7 +14,9 @@ pub loop-id-init : goal.loop-id-init
 loop-id-init c = record {
   down = λ k l. absurd (omega (arith, l));
   up = λ k l. absurd (omega (arith, l));
-  led = λ k h. absurd (false≢true (sym (ap (λ xs. flagged xs k) (c.in_ok-led.ensures.items_if_clones_equal (λ y same. same)) ∙ none_set _ k) ∙ h));
+  led = λ k h. absurd
+      (false≢true (sym (ap (λ xs. flagged xs k) (c.in_ok-led.ensures.items_if_clones_equal (λ y same. same))
+      ∙ none_set _ k) ∙ h));
 }
 
 pub loop-id-preserved : goal.loop-id-preserved
@@ -34,7 +36,8 @@ loop-id-preserved c =
     let both : (list_all (is_no_later rings id) next
     && (is_top rings id || list_any (is_nearer rings id) next)) ≡ true =
     subst (λ xs. (list_all (is_no_later rings id) xs
-    && (is_top rings id || list_any (is_nearer rings id) xs)) ≡ true) (c.as_slice.ensures.value ∙ c.in_ok-next_of.ensures)
+    && (is_top rings id || list_any (is_nearer rings id) xs)) ≡ true)
+    (c.as_slice.ensures.value ∙ c.in_ok-next_of.ensures)
     (sym c.is_ranked.ensures ∙ c.if-not-is_ranked.false) in
     let parts = and_parts (list_all (is_no_later rings id) next) _ both in
     let old = c.loop-id.invariant in
@@ -56,7 +59,8 @@ loop-id-preserved c =
       led = λ k h. elim (c.mark_later.ensures k h) [
         | inl before ↦ old.led k before
         | inr later ↦ is_led whole ts root places at id node told.is told.rules.test told.below rings k le
-            (subst (λ xs. Contains xs k) (c.as_slice-in-loop-id.ensures.value ∙ c.in_ok-next_of.ensures) later.0) later.1
+            (subst (λ xs. Contains xs k) (c.as_slice-in-loop-id.ensures.value ∙ c.in_ok-next_of.ensures) later.0)
+            later.1
       ];
     }
 

@@ -25,7 +25,8 @@ loop-id-preserved c =
     let old = c.loop-id.invariant in
     let new = c.mark_named.new.back.items in
     let marked : Marked rings places ring (names_of node) c.loop-id.back.items new =
-    subst (λ r. Marked rings places r (names_of node) c.loop-id.back.items new) (ap (λ (s : Spot). s.ring) c.spot-ring.ensures)
+    subst (λ r. Marked rings places r (names_of node) c.loop-id.back.items new)
+    (ap (λ (s : Spot). s.ring) c.spot-ring.ensures)
     c.mark_named.ensures in
     let le : id ≤ t.root = omega arith in
     record {

@@ -19,7 +19,8 @@ returns c tree h =
       each = λ k l e. (
           let part = tree_at (trees tree.nodes) k in
           let inside : k < length spans = omega (arith, l, h.count) in
-          kept_back (BranchHas unset (tree_of tree) part) (lengths_at tree k) (branch_bounds unset (tree_of tree) part) e
+          kept_back (BranchHas unset (tree_of tree) part) (lengths_at tree k)
+          (branch_bounds unset (tree_of tree) part) e
           ∙ ap (λ s. lengths_back (back_of s)) (sym (h.each k l))
           ∙ ap lengths_back (sym (get_or-map back_of spans k None no_back inside))
           ∙ ap (λ xs. lengths_back (get_or xs k no_back)) (sym all));
