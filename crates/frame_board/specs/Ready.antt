@@ -75,7 +75,7 @@ setting_for tree view answers = setting_in tree view.matching.now view.subject.n
 abbrev pub lengths_in : TreeParts → Nested → SomeLengths
 lengths_in tree t = branch_lengths tree.options.match_unset_backref (tree_of tree) t
 
--- The search is one that runs here: the branches of the tree's lookbehinds have one length each, and
+-- The search is one that runs here: no branch of the tree's lookbehinds is refused, and
 -- the subject can be looked at, in UTF as UTF-8.
 pub record IsBoardSearch (tree : TreeParts) (table : List CharSet) (matching : MatchOptions) (subject : List ℕ) : Type
     0 where

@@ -125,7 +125,7 @@ module _ (c : Ground) (ok : IsGround c) (q : ℕ) (spot : Spot) (stack : List En
   stop_look ahead' false once i full = over_units c spot.left _ _ (entered ahead' false once i)
       (holding_full c.setting _ _ full)
 
-  -- its branches are parts, of one length each where it looks back
+  -- its branches are parts, and where it looks back none is refused
   pub look_parts : (ahead' positive once : Bool) → IsNode c q (node.Look ahead' positive once ks) → All (IsPart c) ks
   look_parts ahead' positive once i = parts ahead' positive once i
 

@@ -134,7 +134,7 @@ impl Facts {
 /// Why nothing is told of a pattern.
 #[derive(Clone, Copy, Debug, PartialEq, Eq)]
 pub enum CheckError {
-    /// A lookbehind is refused: 125, a branch isn't of one length, or 187, it is too long. The place is that of the
+    /// A lookbehind is refused: 125, a branch has no greatest length, or 187, it is too long. The place is that of the
     /// lookbehind's parenthesis (pcre2pattern, "Lookbehind assertions").
     Bad { number: i32, at: u32 },
     /// Want of memory.
@@ -153,7 +153,8 @@ impl From<Memory> for CheckError {
 }
 
 /// What is known of a pattern, by its tree and the table of its classes. Refuses the first branch of a lookbehind in
-/// the pattern's order that isn't of one length or is longer than 65,535 characters; a pattern without lookbehinds is
+/// the pattern's order that has no greatest length, that is longer than 255 characters where its lengths differ, or than
+/// 65,535 where there is one; a pattern without lookbehinds is
 /// refused for want of memory alone. Nodes that aren't under the root don't count.
 pub fn check(alloc: Global, tree: &Tree, classes: &ClassTable) -> Result<Facts, CheckError>
     requires table { IsTableOf tree.now classes.now }
