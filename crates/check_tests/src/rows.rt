@@ -365,17 +365,17 @@ fn lookbehinds_have_a_length_or_are_refused(rt: HostRuntime) -> Result<(), Fail>
     use Looks::{Back, Bad};
     use Step::*;
     let plain = Options::PLAIN;
-    static ROWS: [(&'static [Step], Looks); 37] = [
+    static ROWS: [(&'static [Step], Looks); 39] = [
         // `(?<=ab|c)d`, `(?<!abc)`, `(?<=a+)b`, `(?<=a?)`, `(?<=a{3})`, `(?<=a{0})`, `(?<=\R)`
         (&[A, B, Seq(2), C, Behind(2), A, Seq(2)], Back(2)),
         (&[A, B, C, Seq(3), NotBehind(1)], Back(3)),
         (&[Chars(97, 1, None), Behind(1), B, Seq(2)], Bad(125, 1)),
-        (&[MAYBE, Behind(1)], Bad(125, 1)),
+        (&[MAYBE, Behind(1)], Back(1)),
         (&[Chars(97, 3, Some(3)), Behind(1)], Back(3)),
         (&[Chars(97, 0, Some(0)), Behind(1)], Back(0)),
-        (&[Break, Behind(1)], Bad(125, 1)),
+        (&[Break, Behind(1)], Back(2)),
         // `(?<=(?:a|bc))`, `(?<=(?:a|b))`, `(?<=(?>ab|cd){2})`, `(?<=(?:a?){2})`
-        (&[A, B, C, Seq(2), Group(2), Behind(1)], Bad(125, 5)),
+        (&[A, B, C, Seq(2), Group(2), Behind(1)], Back(2)),
         (&[A, B, Group(2), Behind(1)], Back(1)),
         (
             &[
@@ -391,7 +391,7 @@ fn lookbehinds_have_a_length_or_are_refused(rt: HostRuntime) -> Result<(), Fail>
             ],
             Back(4),
         ),
-        (&[MAYBE, Repeat(2, Some(2)), Behind(1)], Bad(125, 2)),
+        (&[MAYBE, Repeat(2, Some(2)), Behind(1)], Back(2)),
         // `(?<=^\K(?=b)(?!c)(*COMMIT)a)`, and an empty branch
         (
             &[
@@ -409,7 +409,9 @@ fn lookbehinds_have_a_length_or_are_refused(rt: HostRuntime) -> Result<(), Fail>
         ),
         (&[A, Empty, Behind(2)], Back(1)),
         (&[Group(0), Behind(1)], Bad(125, 1)),
-        // `(?<=a{65535})`, `(?<=a{65535}b)`, `(?<=a{65535}b|c+)`
+        // `(?<=a{1,255})`, `(?<=a{1,256})`, `(?<=a{65535})`, `(?<=a{65535}b)`, `(?<=a{65535}b|c+)`
+        (&[Chars(97, 1, Some(255)), Behind(1)], Back(255)),
+        (&[Chars(97, 1, Some(256)), Behind(1)], Bad(187, 1)),
         (&[Chars(97, 65535, Some(65535)), Behind(1)], Back(65535)),
         (
             &[Chars(97, 65535, Some(65535)), B, Seq(2), Behind(1)],
@@ -454,7 +456,7 @@ fn lookbehinds_have_a_length_or_are_refused(rt: HostRuntime) -> Result<(), Fail>
                 Repeat(0, Some(3)),
                 Behind(1),
             ],
-            Bad(125, 4),
+            Bad(187, 4),
         ),
         // `(?<=(a)(?1))`, `(?<=(a)\1)`, `(?<=(a(?1)?))`, `(?<=(?R))`, `(?<=(?1))((?2)?)(b)`
         (&[A, Capture(1, 1), Call(1), Seq(2), Behind(1)], Back(2)),
@@ -549,7 +551,7 @@ fn lookbehinds_have_a_length_or_are_refused(rt: HostRuntime) -> Result<(), Fail>
         ),
         (
             &[A, Capture(1, 1), B, IfSetAlone(1), Behind(1), Seq(2)],
-            Bad(125, 4),
+            Back(1),
         ),
         (&[A, B, Seq(2), Define, C, Seq(2), Behind(1)], Back(1)),
         // the first in the pattern: `(?<=a+)(?<=a{65535}b)` and the other way round, and `(?<=(?<=a+)b+)`

@@ -149,7 +149,7 @@ decide_placed final true once ts d P Q at miss a b body = (miss + 1, miss, body,
 decide_placed final false once ts d P Q at miss a b body = (miss + 1, miss, body, (b, a))
 
 module _ (ps : List placed.Placed) where
-  -- a part up to the root, the branches of whose lookbehinds have one length each
+  -- a part up to the root, of which no lookbehind is refused
   abbrev pub IsIn : ℕ → ℕ → Type 0
   IsIn root q = (q ≤ root) × IsReady (tree_at (trees ps) q)
 

@@ -65,7 +65,7 @@ impl Graph {
     /// The graph of a tree. What isn't supported is refused, the leftmost item deciding; then a tree
     /// that is too large.
     ///
-    /// Needs the facts of the tree, and lookbehinds whose branches have one length each.
+    /// Needs the facts of the tree, of which no lookbehind is refused.
     pub fn build(alloc: Global, tree: &Tree, facts: &Facts) -> Result<Graph, GraphError>
         requires size { facts.now.size ≡ size (tree_of tree.now.nodes tree.now.root) }
         requires dfa { facts.now.dfa ≡ dfa_support (tree_of tree.now.nodes tree.now.root) }

@@ -29,6 +29,7 @@ use Rattle.pat_tree.specs.Parts.{TreeParts}
 use Rattle.node_flow.specs.Followers.{rest}
 use Rattle.node_flow.specs.Linked.{IsLinked}
 use Rattle.node_flow.specs.Branches.{branch_child, branch_of}
+use Rattle.node_flow.specs.LookBranches.{look_branch_child, look_branch_of}
 use Rattle.node_flow.specs.Order.{StandInTurn, order, rank, past}
 use Rattle.node_flow.proofs.InTurn.{children_stand_in_turn, root_in_order}
 use Rattle.node_flow.proofs.Telling.{hang_together}
@@ -270,6 +271,9 @@ module _ (t : TreeParts) (table : List CharSet) (matching : MatchOptions) (subje
           (h.linked q le nowhere);
       branched = subst (λ m. All (λ k. branch_of t.nodes t.root k ≡ branch_child m (branch_of t.nodes t.root q) k)
           (kids_of m)) (sym (here nowhere)) (h.branches.each q le nowhere);
+      looked = subst (λ m. All (λ k. look_branch_of t.nodes t.root k
+          ≡ look_branch_child m (look_branch_of t.nodes t.root q) k) (kids_of m)) (sym (here nowhere))
+          (h.look_branches.each q le nowhere);
       under = subst (λ m. All (λ k. is_in k (order t.nodes t.root) ≡ true) (kids_of m)) (sym (here nowhere))
           (h.under q under nowhere);
       in_turn = subst (λ m. StandInTurn (rank t.nodes t.root) (past t.nodes t.root) (suc (rank t.nodes t.root q))
@@ -335,6 +339,7 @@ board_search t table matching subject rules fixed shown searched groups few = re
   chained = (followers_hang_together t rules).chained;
   linked = (followers_hang_together t rules).linked;
   branches = hang_together branch_child t rules;
+  look_branches = hang_together look_branch_child t rules;
   under = λ q inside other. (children_stand_in_turn t rules q inside other).0;
   in_turn = λ q inside other. (children_stand_in_turn t rules q inside other).1;
   root_under = root_in_order t rules;

@@ -72,10 +72,10 @@ capture_alone : (c : Ground) (q n : ℕ) (t : Nested) → is_capture_of n t ≡ 
 capture_alone c q n (tree.group (Some m) ts) e = tt
 capture_alone c q n _ e = absurd (false≢true e)
 
-last_alone : (c : Ground) (q : ℕ) (t : Nested) → c.rest q ≡ [] → EndsAlone c q t
-last_alone c q (tree.group (Some m) ts) e = tt
-last_alone c q (tree.group None ts) e = e
-last_alone c q _ e = e
+last_alone : (c : Ground) (q : ℕ) (t : Nested) → c.rest q ≡ [] → c.look_branch q ≡ None → EndsAlone c q t
+last_alone c q (tree.group (Some m) ts) e looked = tt
+last_alone c q (tree.group None ts) e looked = (e, looked)
+last_alone c q _ e looked = (e, looked)
 
 module _ (t : TreeParts) (table : List CharSet) (matching : MatchOptions) (subject : List ℕ) (start : ℕ)
     (answers : Block → ℤ)
@@ -100,7 +100,7 @@ module _ (t : TreeParts) (table : List CharSet) (matching : MatchOptions) (subje
       let kids : All (IsPart board) (kids_of p.node) = kid_parts_of board q p.node part r.0 r.1
       (h.linked q within nowhere) (rules.nodes.each q nowhere inside).test
       (h.under q part.under nowhere) (λ k. omega arith) (h.in_turn q part.under nowhere)
-      (h.branches.each q within nowhere) in
+      (h.branches.each q within nowhere) (h.look_branches.each q within nowhere) in
       subst (All (IsPart board)) (sym (parts_come_first t rules q within nowhere))
       (All-cons (IsPart board) q (flat_map (order t.nodes) (kids_of p.node)) part
       (all_flat (IsPart board) (order t.nodes) (kids_of p.node)
@@ -148,7 +148,7 @@ module _ (t : TreeParts) (table : List CharSet) (matching : MatchOptions) (subje
                 ap group_is (eq-eqb n 0 same),
                 record {
                   inside = root_part board ok;
-                  alone = last_alone board t.root (tree_of board t.root) ok.last;
+                  alone = last_alone board t.root (tree_of board t.root) ok.last ok.whole_unlooked;
                 },
               )
           | inr other ↦ subst (IsCalled board n) (sym (ap whole_if (ne_eqb n 0 other)))

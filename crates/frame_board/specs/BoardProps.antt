@@ -13,6 +13,7 @@ use Rattle.pat_check.specs.declared.facts.Facts.{Facts}
 use Rattle.char_sets.specs.Table.{CharSet}
 use Rattle.node_flow.specs.Branches.{AreBranchesOf}
 use Rattle.node_flow.specs.Followers.{IsFlowOf}
+use Rattle.node_flow.specs.LookBranches.{AreLookBranchesOf}
 use Rattle.node_flow.specs.Order.{AreRanks, StandInTurn}
 use Rattle.node_flow.specs.Linked.{AreChained, IsLinked}
 use Rattle.frame_state.specs.Behind.{AreFixed, HasFixed}
@@ -71,6 +72,10 @@ IsFlowOf-prop nodes root flow = hlevel props
 pub AreBranchesOf-prop : (nodes : List Placed) (root : ℕ) (branches : List (Option ℕ))
     → IsProp (AreBranchesOf nodes root branches)
 AreBranchesOf-prop nodes root branches = hlevel props
+
+pub AreLookBranchesOf-prop : (nodes : List Placed) (root : ℕ) (branches : List (Option ℕ))
+    → IsProp (AreLookBranchesOf nodes root branches)
+AreLookBranchesOf-prop nodes root branches = hlevel props
 
 pub AreRanks-prop : (nodes : List Placed) (root : ℕ) (ranks : List ℕ) → IsProp (AreRanks nodes root ranks)
 AreRanks-prop nodes root ranks = hlevel props

@@ -60,6 +60,7 @@ module _ (t : TreeParts) (table : List CharSet) (matching : MatchOptions) (subje
     last = h.last;
     whole_under = h.root_under;
     whole_alone = h.branches.whole;
+    whole_unlooked = h.look_branches.whole;
     spans = λ q. omega arith;
     chained = λ q p ps le e. h.chained q p ps e;
     few = lower_few t.options.match_limit matching.match_limit h.few;

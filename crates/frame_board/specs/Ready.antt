@@ -12,6 +12,7 @@ use Rattle.pat_tree.specs.declared.nodes.Placed.{Placed}
 use Rattle.node_flow.specs.Branches.{branch_of, AreBranchesOf, BranchesHangTogether}
 use Rattle.node_flow.specs.Followers.{rest, IsFlowOf}
 use Rattle.node_flow.specs.Linked.{IsLinked}
+use Rattle.node_flow.specs.LookBranches.{look_branch_of, AreLookBranchesOf, LookBranchesHangTogether}
 use Rattle.node_flow.specs.Order.{AreRanks, StandInTurn, order, rank, past}
 use Rattle.char_sets.specs.Table.{CharSet, IsTableOf}
 use Rattle.match_items.specs.declared.view.View.{View}
@@ -51,6 +52,7 @@ pub record AreFactsOf (tree : TreeParts) (facts : Facts) : Type 0 where
   pub greatest : facts.greatest_back ≡ greatest_back tree
   pub flow : IsFlowOf tree.nodes tree.root facts.flow
   pub branches : AreBranchesOf tree.nodes tree.root facts.branches
+  pub look_branches : AreLookBranchesOf tree.nodes tree.root facts.look_branches
   pub ranks : AreRanks tree.nodes tree.root facts.ranks
   pub need : IfSome facts.need (IsNeedOf tree)
 
@@ -73,7 +75,7 @@ setting_for tree view answers = setting_in tree view.matching.now view.subject.n
 abbrev pub lengths_in : TreeParts → Nested → SomeLengths
 lengths_in tree t = branch_lengths tree.options.match_unset_backref (tree_of tree) t
 
--- The search is one that runs here: the branches of the tree's lookbehinds have one length each, and
+-- The search is one that runs here: no branch of the tree's lookbehinds is refused, and
 -- the subject can be looked at, in UTF as UTF-8.
 pub record IsBoardSearch (tree : TreeParts) (table : List CharSet) (matching : MatchOptions) (subject : List ℕ) : Type
     0 where
@@ -91,6 +93,7 @@ pub record IsBoardSearch (tree : TreeParts) (table : List CharSet) (matching : M
       IsLinked (rest tree.nodes tree.root) (rest tree.nodes tree.root q) (slice_index_or tree.nodes q other).node
   -- around children is the branch that their parent says, and they stand in turn behind it
   pub branches : BranchesHangTogether tree.nodes tree.root
+  pub look_branches : LookBranchesHangTogether tree.nodes tree.root
   pub under : (q : ℕ) → is_in q (order tree.nodes tree.root) ≡ true → (other : Placed) →
       All (λ k. is_in k (order tree.nodes tree.root) ≡ true) (kids_of (slice_index_or tree.nodes q other).node)
   pub in_turn : (q : ℕ) → is_in q (order tree.nodes tree.root) ≡ true → (other : Placed) →
@@ -119,6 +122,7 @@ ground_in tree matching subject start answers = record {
   root = tree.root;
   rest = rest tree.nodes tree.root;
   branch = branch_of tree.nodes tree.root;
+  look_branch = look_branch_of tree.nodes tree.root;
   under = λ q. is_in q (order tree.nodes tree.root);
   rank = rank tree.nodes tree.root;
   past = past tree.nodes tree.root;

@@ -83,7 +83,7 @@ module _ (g h : Scene) (options : g.options ≡ h.options) (subject : g.subject 
       ap (λ (o : Options). place_before (record g { options = o }) p) options
       ∙ ap (λ (s : List ℕ). place_before (record g { options = h.options; subject = s }) p) subject
 
-  places_same : (n p : ℕ) → places_back g n p ≡ places_back h n p
+  pub places_same : (n p : ℕ) → places_back g n p ≡ places_back h n p
   unfolding places_back
   places_same zero p = refl
   places_same (suc n) zero = refl

@@ -4,15 +4,17 @@ ghost use Rattle.match_items.specs.Subjects.{IsText, IsTextPlace};
 ghost use Rattle.match_items.specs.Views.{text_scene};
 ghost use Rattle.node_flow.specs.Branches.{AreBranchesOf};
 ghost use Rattle.node_flow.specs.Followers.{IsFlowOf};
+ghost use Rattle.node_flow.specs.LookBranches.{AreLookBranchesOf};
 ghost use Rattle.node_flow.specs.Order.{AreRanks};
 ghost use Rattle.pat_lengths.specs.Backs.{AreBacks};
 ghost use Rattle.pat_lengths.specs.Places.{ArePlaces};
 ghost use Rattle.frame_board.specs.Ready.{IsBoardSearch, IsKnown, setting_in};
 ghost use Rattle.frame_board.specs.Standing.{stands_in};
 ghost use Rattle.frame_board.specs.BoardProps.{IsBoardSearch-prop, IsFlowOf-prop, AreBranchesOf-prop, AreRanks-prop};
+ghost use Rattle.frame_board.specs.BoardProps.{AreLookBranchesOf-prop};
 ghost use Rattle.frame_board.specs.BoardProps.{AreBacks-prop, ArePlaces-prop, IsKnown-prop};
 
-use crate::counted::{longest, place_of, taken, wide};
+use crate::counted::{longest, place_of, room_before, taken, wide};
 use crate::reaches::{break_reaches, item_reaches, ref_reaches};
 use char_sets::ClassTable;
 use frame_state::searchable::{Run, Searchable};
@@ -37,6 +39,7 @@ pub struct Board<'a, C: Callouts> {
     ghost runs: { IsBoardSearch tree.now classes.now matching.now subject.now } by { IsBoardSearch-prop tree.now classes.now matching.now subject.now },
     ghost flows: { IsFlowOf tree.now.nodes tree.now.root facts.now.flow } by { IsFlowOf-prop tree.now.nodes tree.now.root facts.now.flow },
     ghost branches: { AreBranchesOf tree.now.nodes tree.now.root facts.now.branches } by { AreBranchesOf-prop tree.now.nodes tree.now.root facts.now.branches },
+    ghost look_branches: { AreLookBranchesOf tree.now.nodes tree.now.root facts.now.look_branches } by { AreLookBranchesOf-prop tree.now.nodes tree.now.root facts.now.look_branches },
     ghost ranks: { AreRanks tree.now.nodes tree.now.root facts.now.ranks } by { AreRanks-prop tree.now.nodes tree.now.root facts.now.ranks },
     ghost backs: { AreBacks tree.now facts.now.backs } by { AreBacks-prop tree.now facts.now.backs },
     ghost known: { IsKnown tree.now facts.now } by { IsKnown-prop tree.now facts.now },
@@ -100,6 +103,16 @@ impl<C: Callouts> Searchable for Board<'_, C> {
 
     fn branch(&self, part: u32) -> Option<u32> {
         self.facts.branch(part)
+    }
+
+    fn settles(&self, part: u32) -> bool {
+        match self.facts.look_branch(part) {
+            None => false,
+            Some(branch) => {
+                let back = self.facts.back(branch);
+                back.least != back.most
+            }
+        }
     }
 
     fn rank(&self, part: u32) -> u32 {
@@ -217,6 +230,10 @@ impl<C: Callouts> Searchable for Board<'_, C> {
         } else {
             at.checked_sub(u64::from(count))
         }
+    }
+
+    fn room_before(&self, at: u64, most: u32) -> u32 {
+        room_before(&self.view(), at as usize, most)
     }
 
     fn back(&self, branch: u32) -> Back {

@@ -1,13 +1,13 @@
 //! Tests of items whose counts nothing reads.
-ghost use Rattle.std.specs.Prelude.{◌≡◌, ◌<◌, All, Option, length};
+ghost use Rattle.std.specs.Prelude.{◌≡◌, ◌+◌, ◌<◌, All, Option, length};
 ghost use Rattle.pat_tree.specs.Rules.{class_in};
 ghost use Rattle.match_items.specs.Subjects.{IsText, IsTextPlace};
-ghost use Rattle.match_items.specs.Items.{after_item, longest_run, run_reaches};
-ghost use Rattle.match_items.specs.Views.{text_scene, end_of};
+ghost use Rattle.match_items.specs.Items.{after_item, longest_run, places_back, run_reaches};
+ghost use Rattle.match_items.specs.Views.{bare_text, text_scene, end_of};
 ghost use Rattle.frame_board.specs.Told.{place_in};
 
 use char_sets::ClassTable;
-use match_items::{ItemRun, Taken, View, item_run, item_step};
+use match_items::{ItemRun, Taken, View, item_run, item_step, text_before};
 use pat_tree::Item;
 
 /// The place after what was taken.
@@ -28,6 +28,21 @@ pub(crate) fn wide(place: Option<usize>) -> Option<u64>
         Some(place) => Some(place as u64),
         None => None,
     }
+}
+
+/// How many characters stand before a place, this number of them at most.
+pub(crate) fn room_before(view: &View<'_>, at: usize, most: u32) -> u32
+    requires subject { IsText view.now.options.now view.now.subject.now }
+    requires place { IsTextPlace view.now.options.now view.now.subject.now at }
+    ensures { result + 1 ≡ length (places_back (bare_text view.now) most at) }
+{
+    let mut room = 0;
+    let mut place = at;
+    'characters: while room < most && place > 0 {
+        room += 1;
+        place = text_before(view, place);
+    }
+    room
 }
 
 /// The place after what one item takes.

@@ -21,14 +21,14 @@ use Rattle.frame_state.specs.Ground.{Ground, tree_of, IsNode, IsGround, IsPart}
 use Rattle.frame_state.specs.Machine.{Around, Outside, heard, kept_at, conf, Conf, first_next, row_length, state_at}
 use Rattle.frame_state.specs.Stops.{told, tells}
 use Rattle.frame_state.specs.Begun.{is_behind}
-use Rattle.frame_state.specs.Frames.{after, past, branch_rest, close_from, frame_around, around, around_at, outside}
+use Rattle.frame_state.specs.Frames.{past, beyond_by, close_from, frame_around, around, around_at, outside}
 use Rattle.frame_state.specs.Frames.{hand, fail, spot_state, ahead, caught}
 use Rattle.frame_state.specs.Branches.{IsBranched}
 use Rattle.frame_state.specs.Validity.{IsCapture, StandsAt, IsRunning, IsValid, Advances, IsLater, IsSound}
 use Rattle.frame_state.specs.Calls.{AreWithin, calls_at, EndsAlone, IsCallee, call_entry, call_spot, called_ahead}
 use Rattle.frame_state.specs.Calls.{IsCalling, GoesOn}
 use Rattle.frame_state.proofs.KidParts.{kid_parts}
-use Rattle.frame_state.proofs.PartPaths.{enter_call, after_nil, branched_group, part_paths, row_deep, first_here}
+use Rattle.frame_state.proofs.PartPaths.{enter_call, branched_group, part_paths, row_deep, first_here}
 use Rattle.frame_state.proofs.PartPaths.{branches_by}
 use Rattle.frame_state.proofs.Frames.{around_here, heard_push, cont_here, caught_through, focus_framed, inside_of}
 use Rattle.frame_state.proofs.Frames.{sound_less, hand_fresh, fresh_sound, hand_frame, later_more, later_none}
@@ -36,6 +36,9 @@ use Rattle.frame_state.proofs.Frames.{contained_none}
 use Rattle.frame_state.proofs.Advance.{holding_room, holding_full, over_steps, over_units, over_units_step}
 use Rattle.frame_state.proofs.Turns.{deep, alone, agreed_frame}
 use Rattle.frame_state.proofs.CallFrames.{around_calls}
+use Rattle.frame_state.proofs.PartPaths.{past_end}
+use Rattle.frame_state.specs.Ground.{settles_by}
+use Rattle.std.proofs.lemmas.Bool.{false≢true}
 
 -- a call is entered
 module _ (c : Ground) (ok : IsGround c) (q m : ℕ) (spot : Spot) (stack : List Entry) (caps : Captures)
@@ -235,19 +238,22 @@ module _ (c : Ground) (ok : IsGround c) (q m : ℕ) (spot : Spot) (stack : List 
 
 -- where the branches of a part begin that doesn't look back
 running_first : (c : Ground) (p : ℕ) (ks : List ℕ) → IsPart c p → All (IsPart c) ks → IsBranched c p ks
-    → (spot : Spot) (stack : List Entry) →
+    → is_behind (tree_of c p) ≡ false → (spot : Spot) (stack : List Entry) →
     StandsAt c spot stack (around c stack spot.frame).depth → IsLater c spot.frame p stack
     → IsRunning c spot stack (first_next p ks)
-running_first c p [] inside parts b spot stack w l = tt
-running_first c p (x ∷ []) inside parts b spot stack w l =
+running_first c p [] inside parts b plain spot stack w l = tt
+running_first c p (x ∷ []) inside parts b plain spot stack w l =
     let lt : c.rank p < c.rank x = All-head (λ k. c.rank p < c.rank k) x [] b.behind in
     (All-head (IsPart c) x [] parts, w, later_more c spot.frame p x stack (omega (arith, lt)) l)
-running_first c p (x ∷ y ∷ ps) inside parts b spot stack w l = (
+running_first c p (x ∷ y ∷ ps) inside parts b plain spot stack w l = (
   inside,
   w,
   (
-    subst (λ r. 0 < row_length r) (sym b.rows) (omega arith),
-    subst (λ r. 1 < row_length r) (sym b.rows) (omega arith),
+    (
+      subst (λ r. 0 < row_length r) (sym b.rows) (omega arith),
+      subst (λ r. 1 < row_length r) (sym b.rows) (omega arith),
+    ),
+    λ back. absurd (false≢true (sym plain ∙ back)),
   ),
   l,
 )
@@ -322,14 +328,13 @@ module _ (c : Ground) (ok : IsGround c) (p : ℕ) (spot : Spot) (stack : List En
         focus_framed c group_entry stack caps (first_next p ks) spot.passed (kept_at group_spot) caps
         (fail c (group_entry ∷ stack) caps) w.standing.marked
         ∙ first_here c p around_it.depth ks (branched_group c p (node.Group (Some m) ks) i (Some m) ks refl) inner h0
-        (alone c (group_entry ∷ stack) caps (suc (length stack)) inner.follow ks None h0
+        (alone c (group_entry ∷ stack) caps (suc (length stack)) inner.follow spot.place ks None h0
         (branches_by c p (node.Group (Some m) ks) i (node.Group (Some m) ks) refl)
         (λ x none. hand_frame c (group_entry ∷ stack) caps (suc (length stack)) x none ∙ sym group_hand))
         (agreed_frame c (group_entry ∷ stack) caps (suc (length stack)) p h0 group_hand) now (pause lower)
         (ap is_behind (sym is_group))
         ∙ ap (λ (z : Follow). branch_paths c.setting (part_paths c around_it.depth ks) now z (pause lower) h0)
-        (ap (after c around_it.depth inner) (ap (λ x. branch_rest c x (c.rest p)) (sym is_group))
-        ∙ after_nil c around_it.depth inner)
+        (ap (λ x. beyond_by c x around_it.depth inner p) (sym is_group))
 
     -- none of the call's own records stands yet
     group_later : IsLater c spot.frame p stack
@@ -354,7 +359,8 @@ module _ (c : Ground) (ok : IsGround c) (p : ℕ) (spot : Spot) (stack : List En
           valid = record {
             running =
                 running_first c p ks callee.inside (kid_parts c p (node.Group (Some m) ks) callee.inside i)
-                (branched_group c p (node.Group (Some m) ks) i (Some m) ks refl) group_spot (group_entry ∷ stack)
+                (branched_group c p (node.Group (Some m) ks) i (Some m) ks refl) (ap is_behind (sym is_group))
+                group_spot (group_entry ∷ stack)
                 (record {
                   inside = omega arith;
                   deep = omega (arith, s.deep, ap (λ (a : Around). a.depth) (around_here c group_entry stack _ refl));
@@ -374,7 +380,7 @@ module _ (c : Ground) (ok : IsGround c) (p : ℕ) (spot : Spot) (stack : List En
 
   -- nothing follows any other
   alone_rest : (n : Node) → ((m : ℕ) (ks : List ℕ) → n ≡ node.Group (Some m) ks → ⊥) → EndsAlone c p (nest c.trees n)
-      → c.rest p ≡ []
+      → (c.rest p ≡ []) × (c.look_branch p ≡ None)
   alone_rest (node.Group (Some m) ks) stray h = absurd (stray m ks refl)
   alone_rest (node.Group None ks) stray h = h
   alone_rest _ stray h = h
@@ -382,9 +388,9 @@ module _ (c : Ground) (ok : IsGround c) (p : ℕ) (spot : Spot) (stack : List En
   pub turn_called_whole : (n : Node) → IsNode c p n → ((m : ℕ) (ks : List ℕ) → n ≡ node.Group (Some m) ks → ⊥)
       → GoesOn c spot (called_ahead c p spot stack caps) (conf (Enter p) spot stack caps)
   turn_called_whole n i stray =
-      let none : c.rest p ≡ [] = alone_rest n stray (subst (EndsAlone c p) (sym i.is) callee.alone) in
+      let none = alone_rest n stray (subst (EndsAlone c p) (sym i.is) callee.alone) in
       let same : k.follow ≡ past c around_it.depth k p =
-      sym (ap (after c around_it.depth k) none ∙ after_nil c around_it.depth k) in
+      sym (past_end c p none.0 false (ap (settles_by c) none.1) around_it.depth k) in
       let e : called_ahead c p spot stack caps ≡ ahead c (conf (Enter p) spot stack caps) =
       ap (λ (z : Follow). paths c.setting around_it.depth (tree_of c p) u z lower h0) same in
       record {

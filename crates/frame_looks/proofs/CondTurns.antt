@@ -32,10 +32,10 @@ use Rattle.ordered_search.specs.Paths.{branch_paths, answered, paths}
 use Rattle.frame_state.specs.declared.machine.Next.{Next}
 use Rattle.frame_state.specs.declared.machine.Next.TheVariants.{Enter, End}
 use Rattle.frame_state.specs.declared.machine.Spot.{Spot}
-use Rattle.frame_state.specs.Ground.{Ground, tree_of, next_of, IsNode, IsGround, IsPart, BeginsBy}
+use Rattle.frame_state.specs.Ground.{Ground, tree_of, IsNode, IsGround, IsPart, BeginsBy}
 use Rattle.frame_state.specs.Begun.{IsFixedPart, first_begun, first_spot}
-use Rattle.frame_state.specs.Machine.{Around, Outside, entry_kept, kept_at, conf, first_set, towards}
-use Rattle.frame_state.specs.Frames.{after, branch_rest, past, around, frame_around, hand, chosen_from, fail, focus}
+use Rattle.frame_state.specs.Machine.{Around, Outside, entry_kept, kept_at, conf, first_set, onward}
+use Rattle.frame_state.specs.Frames.{beyond_by, past, around, frame_around, hand, chosen_from, fail, focus}
 use Rattle.frame_state.specs.Frames.{outside, spot_state, ahead, caught}
 use Rattle.frame_state.specs.Validity.{IsCondition, IsSound, IsValid, Advances, IsLater, IsRunning}
 use Rattle.frame_looks.specs.Conditions.{IsAsserted, IsChoice, IsTest, IsLook, test_entry, test_kind}
@@ -53,6 +53,8 @@ use Rattle.frame_state.specs.Calls.{calls_at}
 use Rattle.frame_state.proofs.CallFrames.{around_calls}
 use Rattle.frame_state.proofs.Turns.{deep, opens_by}
 use Rattle.frame_state.proofs.LeaveTurns.{stop_leave, turn_leave}
+use Rattle.frame_state.proofs.PartPaths.{past_same}
+use Rattle.node_flow.specs.LookBranches.{look_branch_child}
 
 -- the branches of a condition
 module _ (c : Ground) (ok : IsGround c) (q : ℕ) (inside : IsPart c q) (n : Node) (i : IsNode c q n) (test : Cond)
@@ -73,10 +75,11 @@ module _ (c : Ground) (ok : IsGround c) (q : ℕ) (inside : IsPart c q) (n : Nod
   is_condition : tree.condition (tree.cond_of c.trees test) (tree_of c yes') (other_of c.trees no') ≡ tree_of c q
   is_condition = tree_by c q n i (node.Cond test yes' no') e
 
-  entered : (p : ℕ) (d : ℕ) (k : Outside) (s : State) (f : Moves) → c.rest p ≡ c.rest q → k.hand p ≡ k.hand q →
+  entered : (p : ℕ) (d : ℕ) (k : Outside) (s : State) (f : Moves) → c.rest p ≡ c.rest q
+      → c.look_branch p ≡ c.look_branch q → k.hand p ≡ k.hand q →
       focus c (Enter p) d k s f ≡ paths c.setting d (tree_of c p) s (past c d k q) f (k.hand q)
-  entered p d k s f rest same =
-      ap (λ (r : List ℕ). paths c.setting d (tree_of c p) s (after c d k r) f (k.hand p)) rest
+  entered p d k s f rest looked same =
+      ap (λ (z : Follow). paths c.setting d (tree_of c p) s z f (k.hand p)) (past_same c p q rest looked d k)
       ∙ ap (λ (h : Handler). paths c.setting d (tree_of c p) s (past c d k q) f h) same
 
   of_branch : (t : Cond) → All (λ k. c.branch k ≡ branch_child (node.Cond t yes' no') (c.branch q) k)
@@ -94,6 +97,24 @@ module _ (c : Ground) (ok : IsGround c) (q : ℕ) (inside : IsPart c q) (n : Nod
       let all : All (λ k. c.branch k ≡ branch_child (node.Cond test yes' no') (c.branch q) k)
       (kids_of (node.Cond test yes' no')) = branches_by c q n i (node.Cond test yes' no') e in
       of_branch test all p (in_at (yes' ∷ number_in no') j d m)
+
+  -- and so is the branch of a lookbehind
+  look_of : (t : Cond) → All (λ k. c.look_branch k ≡ look_branch_child (node.Cond t yes' no') (c.look_branch q) k)
+      (kids_of (node.Cond t yes' no')) → (p : ℕ) → is_in p (yes' ∷ number_in no') ≡ true
+      → c.look_branch p ≡ c.look_branch q
+  look_of t a p m =
+      of_member (λ k. c.look_branch k ≡ look_branch_child (node.Cond t yes' no') (c.look_branch q) k)
+      (kids_of (node.Cond t yes' no')) p a (in_append p (tests_of t) (yes' ∷ number_in no')
+      ∙ rw (m, or-true) refl)
+      ∙ ap (λ (b : Bool). if b then c.look_branch q else None) m
+
+  looks : All (λ p. c.look_branch p ≡ c.look_branch q) (yes' ∷ number_in no')
+  looks = λ j d m.
+      let p : ℕ = get_or (yes' ∷ number_in no') j d in
+      let all : All (λ k. c.look_branch k ≡ look_branch_child (node.Cond test yes' no') (c.look_branch q) k)
+      (kids_of (node.Cond test yes' no')) =
+      subst (λ m. All (λ k. c.look_branch k ≡ look_branch_child m (c.look_branch q) k) (kids_of m)) e i.looked in
+      look_of test all p (in_at (yes' ∷ number_in no') j d m)
 
   behind_test : (t : Cond) → All (λ p. c.rank q < c.rank p) (kids_of (node.Cond t yes' no'))
       → All (λ p. c.rank q < c.rank p) (yes' ∷ number_in no')
@@ -122,6 +143,7 @@ module _ (c : Ground) (ok : IsGround c) (q : ℕ) (inside : IsPart c q) (n : Nod
   choice_yes = record {
     goes = λ d k s f same.
         entered yes' d k s f (All-head (λ p. c.rest p ≡ c.rest q) yes' (number_in no') linked.1)
+        (All-head (λ p. c.look_branch p ≡ c.look_branch q) yes' (number_in no') looks)
         (same yes' (All-head (λ p. c.branch p ≡ c.branch q) yes' (number_in no') alike))
         ∙ ap (λ t. chosen_from c t true d s (past c d k q) f (k.hand q)) is_condition;
     runs = runs_branch yes' (All-head (IsPart c) yes' (number_in no') (branch_parts test kids))
@@ -138,6 +160,9 @@ module _ (c : Ground) (ok : IsGround c) (q : ℕ) (inside : IsPart c q) (n : Nod
       let likes : All (λ x. c.branch x ≡ c.branch q) (p ∷ []) =
       subst (λ o. All (λ x. c.branch x ≡ c.branch q) (number_in o)) is
       (All-tail (λ x. c.branch x ≡ c.branch q) yes' (number_in no') alike) in
+      let looked : All (λ x. c.look_branch x ≡ c.look_branch q) (p ∷ []) =
+      subst (λ o. All (λ x. c.look_branch x ≡ c.look_branch q) (number_in o)) is
+      (All-tail (λ x. c.look_branch x ≡ c.look_branch q) yes' (number_in no') looks) in
       let later : All (λ x. c.rank q < c.rank x) (p ∷ []) =
       subst (λ o. All (λ x. c.rank q < c.rank x) (number_in o)) is
       (All-tail (λ x. c.rank q < c.rank x) yes' (number_in no') stands_behind) in
@@ -146,6 +171,7 @@ module _ (c : Ground) (ok : IsGround c) (q : ℕ) (inside : IsPart c q) (n : Nod
       record {
         goes = λ d k s f same.
             entered p d k s f (All-head (λ x. c.rest x ≡ c.rest q) p [] rests)
+            (All-head (λ x. c.look_branch x ≡ c.look_branch q) p [] looked)
             (same p (All-head (λ x. c.branch x ≡ c.branch q) p [] likes))
             ∙ ap (λ t. chosen_from c t false d s (past c d k q) f (k.hand q))
             (ap (λ o. tree.condition (tree.cond_of c.trees test) (tree_of c yes') (other_of c.trees o)) (sym is)
@@ -155,7 +181,7 @@ module _ (c : Ground) (ok : IsGround c) (q : ℕ) (inside : IsPart c q) (n : Nod
             (All-head (λ x. c.rest x ≡ c.rest q) p [] rests);
       }
 
-  pub choice_none : no' ≡ None → IsChoice c q false (towards (next_of c q))
+  pub choice_none : no' ≡ None → IsChoice c q false (onward c q)
   choice_none is = record {
     goes = λ d k s f same.
         focus_towards c ok q inside d k s f
@@ -345,7 +371,7 @@ module _ (c : Ground) (ok : IsGround c) (q : ℕ) (spot : Spot) (stack : List En
         test_opens e f =
             opens_by c ok q spot stack caps v n test.asserted.node r at kept plain same room
             p test.inside ks test_parts (branched_look c p m l.node test.inside forward positive' l.once ks refl)
-            (ap (λ x. branch_rest c x (c.rest p)) (sym (tree_by c p m l.node m refl)))
+            (λ d k. ap (λ x. beyond_by c x d k p) (sym (tree_by c p m l.node m refl)))
             (branches_by c p m l.node m refl) sound h is z (not forward)
             (behind_look c p m l.node forward positive' l.once ks refl) _ e f
 

@@ -1,3 +1,4 @@
+pub mod TryLemmas
 pub mod LookTurns
 pub mod CondTurns
 pub mod CalledTests

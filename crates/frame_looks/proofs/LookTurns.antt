@@ -17,9 +17,9 @@ use Rattle.ordered_search.specs.Moves.{Moves, Handler, pause, holding, catching,
 use Rattle.ordered_search.specs.Paths.{branch_paths, look_path}
 use Rattle.frame_state.specs.declared.machine.Next.TheVariants.{Enter, Back, End}
 use Rattle.frame_state.specs.declared.machine.Spot.{Spot}
-use Rattle.frame_state.specs.Ground.{Ground, tree_of, next_of, IsNode, IsGround, IsPart}
-use Rattle.frame_state.specs.Machine.{Around, kept_at, entry_kept, conf, towards}
-use Rattle.frame_state.specs.Frames.{branch_rest, past, around, frame_around, hand, fail, outside, spot_state, ahead}
+use Rattle.frame_state.specs.Ground.{Ground, tree_of, IsNode, IsGround, IsPart}
+use Rattle.frame_state.specs.Machine.{Around, kept_at, entry_kept, conf, onward}
+use Rattle.frame_state.specs.Frames.{beyond_by, past, around, frame_around, hand, fail, outside, spot_state, ahead}
 use Rattle.frame_state.specs.Frames.{caught}
 use Rattle.frame_state.specs.Validity.{IsSound, IsValid, Advances}
 use Rattle.frame_looks.specs.Looks.{look_entry, look_kind}
@@ -40,6 +40,7 @@ use Rattle.frame_state.proofs.Advance.{holding_full, over_units}
 use Rattle.frame_state.proofs.Turns.{deep, opens_as}
 use Rattle.frame_state.proofs.LeaveTurns.{frame_inside, frame_here, stop_leave, turn_left, turn_through, turn_denied}
 use Rattle.frame_state.proofs.KidParts.{kid_parts}
+use Rattle.frame_state.proofs.PartPaths.{EndsFrame}
 
 module _ (c : Ground) (ok : IsGround c) (q : ℕ) (spot : Spot) (stack : List Entry) (caps : Captures)
     (v : IsValid c (conf (Enter q) spot stack caps)) (ks : List ℕ) where
@@ -56,8 +57,8 @@ module _ (c : Ground) (ok : IsGround c) (q : ℕ) (spot : Spot) (stack : List En
     branches : IsBranched c q ks
     branches = branched_look c q n i v.running.0 ahead' positive' once' ks refl
 
-    none : branch_rest c (tree_of c q) (c.rest q) ≡ []
-    none = ap (λ x. branch_rest c x (c.rest q)) (sym (tree_by c q n i n refl))
+    none : EndsFrame c q
+    none = λ d k. ap (λ x. beyond_by c x d k q) (sym (tree_by c q n i n refl))
 
     behind : is_behind (tree_of c q) ≡ not ahead'
     behind = behind_look c q n i ahead' positive' once' ks refl
@@ -124,7 +125,7 @@ module _ (c : Ground) (ok : IsGround c) (q : ℕ) (spot : Spot) (stack : List En
   stop_look ahead' false once i full = over_units c spot.left _ _ (entered ahead' false once i)
       (holding_full c.setting _ _ full)
 
-  -- its branches are parts, of one length each where it looks back
+  -- its branches are parts, and where it looks back none is refused
   pub look_parts : (ahead' positive once : Bool) → IsNode c q (node.Look ahead' positive once ks) → All (IsPart c) ks
   look_parts ahead' positive once i = parts ahead' positive once i
 
@@ -159,7 +160,7 @@ module _ (c : Ground) (ok : IsGround c) (spot : Spot) (records : List Record) (c
 
     pub turn_look_left : spot.units < c.setting.matching.frame_limit →
         Advances c (conf End spot (entries records) caps)
-        (conf (towards (next_of c p.node)) (record spot {
+        (conf (onward c p.node) (record spot {
           place = p.place;
           keep = p.keep;
           passed = p.passed;
@@ -185,7 +186,7 @@ module _ (c : Ground) (ok : IsGround c) (spot : Spot) (records : List Record) (c
         (λ below s. (s.0, s.1))
 
     pub turn_look_through : Advances c (conf End spot (entries records) caps)
-        (conf (towards (next_of c p.node)) (record spot { place = p.place; keep = p.keep; frame = p.link })
+        (conf (onward c p.node) (record spot { place = p.place; keep = p.keep; frame = p.link })
         (entries records) caps)
     turn_look_through =
         turn_through c ok spot records caps v h at_height p at (site_of p) (kept_of p)

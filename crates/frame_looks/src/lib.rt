@@ -5,3 +5,4 @@
 pub mod calls;
 pub mod conds;
 pub mod looks;
+pub mod tries;

@@ -31,7 +31,7 @@ use Rattle.frame_state.specs.Frames.{fail, outside, spot_state, ahead}
 use Rattle.frame_state.specs.Validity.{IsCapture, IsRepeat, SpanStands, AreSound, IsValid, Advances, IsContained}
 use Rattle.frame_state.specs.Validity.{IsLater}
 use Rattle.frame_state.specs.Stops.{IsNumber, told}
-use Rattle.frame_state.proofs.PartPaths.{after_accepted}
+use Rattle.frame_state.proofs.PartPaths.{past_accepted}
 use Rattle.frame_state.proofs.Frames.{around_push, cont_whole, focus_kept, Framed, framed, within_frame, contained_push}
 use Rattle.frame_state.proofs.Drops.{fail_to_is}
 use Rattle.frame_state.proofs.Advance.{holding_room, holding_full, advance_pause, over_units}
@@ -243,7 +243,7 @@ module _ (c : Ground) (ok : IsGround c) (spot : Spot) (records : List Record) (c
       ∙ ap pause
       (holding_same c.setting 1 (captured m p.place s) (λ t. past c a.depth k p.node accepted t (pause f))
       (λ t. k.follow accepted t (pause f))
-      (λ t. after_accepted c a.depth k (c.rest p.node) t (pause f)))
+      (λ t. past_accepted c a.depth k p.node t (pause f)))
 
   closes_called : (m : ℕ) → IsNumber (tree_of c p.node) m
       → (a : Around) (k : Outside) (x : Captures) (out : Moves) (s : State) (f : Moves) →
@@ -324,7 +324,7 @@ module _ (c : Ground) (ok : IsGround c) (spot : Spot) (records : List Record) (c
         ∙ ap (λ (k : Follow). k accepted s f) (turns a K turn_frame.inner (fail c turn_frame.below turn_frame.inner))
         ∙ ap (λ t. turned_from c t p.count a.depth (state_at a (kept_of p) turn_frame.inner) (past c a.depth K p.node)
         (K.hand p.node) accepted s f) (sym z.4)
-        ∙ ap pause (after_accepted c a.depth K (c.rest p.node) s f)
+        ∙ ap pause (past_accepted c a.depth K p.node s f)
         ∙ ap (λ (u : State). pause (K.follow accepted u f)) turn_state
 
     turn_depth : spot.left < (around c stack p.link).depth
@@ -404,7 +404,7 @@ module _ (c : Ground) (ok : IsGround c) (spot : Spot) (records : List Record) (c
         ∙ ap pause
         (holding_same c.setting 1 (state_at a (kept_at spot) caps) (λ t. P accepted t (pause lower))
         (λ t. K.follow accepted t (pause lower))
-        (λ t. after_accepted c a.depth K (c.rest p.node) t (pause lower)))
+        (λ t. past_accepted c a.depth K p.node t (pause lower)))
 
     pub stop_accept_atomic : c.setting.matching.frame_limit ≤ spot.units
         → tread c.setting spot.left (ahead c (conf Accept spot stack caps)) ≡ answers FrameLimit

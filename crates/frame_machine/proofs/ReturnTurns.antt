@@ -21,8 +21,8 @@ use Rattle.ordered_search.specs.Moves.{Moves, stops, pause, Follow, holding, tre
 use Rattle.ordered_search.specs.Paths.{returned, pauses}
 use Rattle.frame_state.specs.declared.machine.Next.TheVariants.{End}
 use Rattle.frame_state.specs.declared.machine.Spot.{Spot}
-use Rattle.frame_state.specs.Ground.{Ground, tree_of, next_of, BeginsBy, IsGround, IsPart}
-use Rattle.frame_state.specs.Machine.{Around, Outside, state_at, kept_at, conf, towards}
+use Rattle.frame_state.specs.Ground.{Ground, tree_of, BeginsBy, IsGround, IsPart}
+use Rattle.frame_state.specs.Machine.{Around, Outside, state_at, kept_at, conf, onward}
 use Rattle.frame_state.specs.Frames.{past, close_from, around, around_at, cont, outside, fail, spot_state, ahead, focus}
 use Rattle.frame_state.specs.Validity.{IsLater, IsCapture, SpanStands, AreSpans, AreSound, IsValid, Advances}
 use Rattle.frame_state.specs.Stops.{IsNumber}
@@ -201,20 +201,20 @@ module _ (c : Ground) (ok : IsGround c) (spot : Spot) (records : List Record) (c
 
       pub turn_left : (now : List Entry) → AreRestored (site_of p) entry 0 (trail caps stack) (trail entry now)
           → spot.units + count ≤ c.setting.matching.frame_limit →
-          Advances c (conf End spot stack caps) (conf (towards (next_of c p.node))
+          Advances c (conf End spot stack caps) (conf (onward c p.node)
           (record spot { frame = p.link; units = spot.units + count }) now entry)
       turn_left now r room =
           let w = v.running in
           let to : Spot = record spot { frame = p.link; units = spot.units + count } in
           advance_pause c _ _ _
           (leaving ∙ ap pause (holding_some c.setting count left_state _ room))
-          (ap (λ (a : Around). focus c (towards (next_of c p.node)) a.depth (outside c now entry p.link)
+          (ap (λ (a : Around). focus c (onward c p.node) a.depth (outside c now entry p.link)
           (state_at a (kept_at to) entry) (fail c now entry))
           (r.arounds c p.link spot.passed call_frame.link w.marked)
           ∙ focus_agrees c p.node outer.depth (outside c now entry p.link) K (r.outsides c call_frame.link)
-          (state_at outer (kept_at to) entry) (fail c now entry) (towards (next_of c p.node))
+          (state_at outer (kept_at to) entry) (fail c now entry) (onward c p.node)
           (begun_towards c ok p.node call_inside)
-          ∙ ap (focus c (towards (next_of c p.node)) outer.depth K (state_at outer (kept_at to) entry)) (r.failing c)
+          ∙ ap (focus c (onward c p.node) outer.depth K (state_at outer (kept_at to) entry)) (r.failing c)
           ∙ focus_towards c ok p.node call_inside outer.depth K (state_at outer (kept_at to) entry)
           (pauses count (fail c stack caps)))
           refl
@@ -244,11 +244,11 @@ module _ (c : Ground) (ok : IsGround c) (spot : Spot) (records : List Record) (c
       pub turn_given : (now : List Entry) (held : Captures)
           → AreRestored (site_of p) entry 0 (trail caps stack) (trail held now)
           → spot.units + count ≤ c.setting.matching.frame_limit →
-          Advances c (conf End spot stack caps) (conf (towards (next_of c p.node))
+          Advances c (conf End spot stack caps) (conf (onward c p.node)
           (record spot { frame = p.link; units = spot.units + count }) now held)
       turn_given now held r room =
           subst (λ (x : Captures). Advances c (conf End spot stack caps)
-          (conf (towards (next_of c p.node)) (record spot { frame = p.link; units = spot.units + count }) now
+          (conf (onward c p.node) (record spot { frame = p.link; units = spot.units + count }) now
           x)) (sym r.done)
           (turn_left now (subst (λ (x : Captures). AreRestored (site_of p) entry 0 (trail caps stack) (trail x now))
           r.done r) room)

@@ -1,5 +1,5 @@
 -- Where the machine starts, what is ahead is the whole search.
-use Rattle.std.proofs.Common.{◌≡◌, ℕ, ◌+◌, ◌∙◌, true, [], replicate, None, ap, arith}
+use Rattle.std.proofs.Common.{false, ◌≡◌, ℕ, ◌+◌, ◌∙◌, true, [], replicate, None, ap, arith}
 use Rattle.std.proofs.lemmas.List.{length-replicate}
 use Rattle.std.proofs.lemmas.List.Elements.{All-replicate}
 use Rattle.frame_store.specs.Captures.{Captures}
@@ -13,12 +13,13 @@ use Rattle.frame_state.specs.declared.machine.Spot.{Spot}
 use Rattle.frame_state.specs.Ground.{Ground, tree_of, IsGround}
 use Rattle.frame_state.specs.Machine.{conf, heard, Outside}
 use Rattle.frame_state.specs.Stops.{none_met}
-use Rattle.frame_state.specs.Frames.{after, around, fail, ahead, outside}
+use Rattle.frame_state.specs.Frames.{past, around, fail, ahead, outside}
 use Rattle.frame_state.specs.Validity.{SpanStands, IsValid}
 use Rattle.frame_state.proofs.KidParts.{root_part}
-use Rattle.frame_state.proofs.PartPaths.{after_nil}
 use Rattle.frame_state.proofs.Frames.{cont_whole, caught_whole, hand_frame}
 use Rattle.search_paths.proofs.Before.{tread_whole}
+use Rattle.frame_state.proofs.PartPaths.{past_end}
+use Rattle.frame_state.specs.Ground.{settles_by}
 
 module _ (c : Ground) (ok : IsGround c) (place : ℕ) where
   abbrev start_spot : Spot
@@ -43,7 +44,7 @@ module _ (c : Ground) (ok : IsGround c) (place : ℕ) where
   starts =
       let d : ℕ = match_limit c.setting + 1 in
       let K : Outside = outside c [] start_caps 0 in
-      let follow : after c d K (c.rest c.root) ≡ at_end = ap (after c d K) ok.last ∙ after_nil c d K
+      let follow : past c d K c.root ≡ at_end = past_end c c.root ok.last false (ap (settles_by c) ok.whole_unlooked) d K
       ∙ cont_whole c [] start_caps in
       ap (λ (z : Follow). tread c.setting (match_limit c.setting)
       (paths c.setting d (tree_of c c.root) (first_state c.setting.groups place) z exhaust (K.hand c.root)))

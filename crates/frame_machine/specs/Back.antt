@@ -3,6 +3,7 @@ use Rattle.std.specs.Prelude.{◌≢◌, ℕ, List, ◌∷◌}
 use Rattle.frame_store.specs.declared.records.Record.{Record}
 use Rattle.frame_store.specs.declared.kinds.TheConstants.{KIND_LATER_BRANCH, KIND_TURN_OR_EXIT, KIND_LATER_TURN}
 use Rattle.frame_store.specs.declared.kinds.TheConstants.{KIND_FEWER_ITEMS, KIND_MORE_ITEMS, KIND_ATOMIC_LEFT}
+use Rattle.frame_store.specs.declared.kinds.TheConstants.{KIND_LATER_TRY}
 use Rattle.frame_store.specs.Captures.{Captures}
 use Rattle.frame_store.specs.Entry.{entries, entry_of}
 use Rattle.frame_store.specs.Undo.{taken_back}
@@ -13,11 +14,11 @@ use Rattle.frame_state.specs.Ground.{Ground}
 use Rattle.frame_state.specs.Machine.{conf}
 use Rattle.frame_state.specs.Validity.{IsValid, Advances}
 
--- a record's kind is none of alternatives, of repeats and of atomic parts
+-- a record's kind is none of alternatives, of tries, of repeats and of atomic parts
 abbrev pub IsOther : ℕ → Type 0
 IsOther kind =
     (kind ≢ KIND_LATER_BRANCH) × (kind ≢ KIND_TURN_OR_EXIT) × (kind ≢ KIND_LATER_TURN) × (kind ≢ KIND_FEWER_ITEMS)
-    × (kind ≢ KIND_MORE_ITEMS) × (kind ≢ KIND_ATOMIC_LEFT)
+    × (kind ≢ KIND_MORE_ITEMS) × (kind ≢ KIND_ATOMIC_LEFT) × (kind ≢ KIND_LATER_TRY)
 
 module _ (c : Ground) where
   -- the record is the newest of a path that has failed

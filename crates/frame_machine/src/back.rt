@@ -18,8 +18,8 @@ use frame_state::reach::reach;
 use frame_state::searchable::Searchable;
 use frame_store::kinds::{
     KIND_ATOMIC_LEFT, KIND_COMMIT_PASSED, KIND_DENIAL_OPEN, KIND_DENIAL_TEST, KIND_FEWER_ITEMS,
-    KIND_LATER_BRANCH, KIND_LATER_TURN, KIND_LOOK_TEST, KIND_MORE_ITEMS, KIND_PRUNE_PASSED,
-    KIND_SKIP_PASSED, KIND_THEN_PASSED, KIND_TURN_OR_EXIT,
+    KIND_LATER_BRANCH, KIND_LATER_TRY, KIND_LATER_TURN, KIND_LOOK_TEST, KIND_MORE_ITEMS,
+    KIND_PRUNE_PASSED, KIND_SKIP_PASSED, KIND_THEN_PASSED, KIND_TURN_OR_EXIT,
 };
 use frame_store::{Record, Span, Store};
 use pat_tree::Node;
@@ -147,6 +147,10 @@ pub(crate) fn back<S: Searchable>(
     if newest.kind == KIND_LATER_BRANCH {
         spot.restore(&newest);
         return Ok(Next::Branch(newest.node, newest.count));
+    }
+    if newest.kind == KIND_LATER_TRY {
+        spot.restore(&newest);
+        return Ok(Next::Try(newest.node, newest.count));
     }
     if newest.kind == KIND_TURN_OR_EXIT {
         spot.restore(&newest);

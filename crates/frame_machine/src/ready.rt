@@ -20,7 +20,7 @@ use std::snapshot::Snapshot;
 ///
 /// Needs the table and the facts of the tree, and a view with the tree's options; a subject of fewer than 4,294,967,295
 /// bytes, which in UTF is UTF-8; a start that is at most the place, and both in the subject, in UTF where characters
-/// begin; and a tree the branches of whose lookbehinds have one length each, as its facts say.
+/// begin; and a tree of which no lookbehind is refused, as its facts say.
 ///
 /// At each callout it calls `calls`, and follows the answer. Where want of memory is answered, the blocks that were
 /// shown last are not told.

@@ -15,6 +15,7 @@ use crate::accepts::accept;
 use crate::back::back;
 use crate::ends::finish;
 use crate::enter::enter;
+use frame_looks::tries::{settle, try_branch};
 use frame_parts::items::{fewer, more};
 use frame_parts::repeats::{begin, branch, offer};
 use frame_state::machine::{Met, Next, Spot, Stop};
@@ -56,11 +57,13 @@ fn turn<S: Searchable, C: Callouts>(
     *next = match *next {
         Next::Enter(at) => enter(on, at, spot, store, registers, calls)?,
         Next::Branch(at, index) => branch(on, at, index, spot, store, registers)?,
+        Next::Try(at, count) => try_branch(on, at, count, spot, store, registers)?,
         Next::Offer(at, count) => offer(on, at, count, spot, store, registers)?,
         Next::Begin(at, count, exits) => begin(on, at, count, exits, spot, store, registers)?,
         Next::Fewer(at, least, last) => fewer(on, at, least, last, spot, store, registers)?,
         Next::More(at, count, last) => more(on, at, count, last, spot, store, registers)?,
         Next::End => finish(on, spot, store, registers, bank)?,
+        Next::Settle => settle(spot, store),
         Next::Back => back(on, spot, store, registers)?,
         Next::Accept => accept(on, spot, store, registers, bank)?,
         Next::Act(acting) => act(on, acting, spot, store, registers)?,

@@ -13,10 +13,10 @@ use Rattle.ordered_search.specs.PlaceAnswer.{answers, FrameLimit}
 use Rattle.ordered_search.specs.Moves.{pause, tread}
 use Rattle.frame_state.specs.declared.machine.Next.TheVariants.{Enter, End}
 use Rattle.frame_state.specs.declared.machine.Spot.{Spot}
-use Rattle.frame_state.specs.Ground.{Ground, next_of, IsNode, IsGround, IsPart}
-use Rattle.frame_state.specs.Machine.{kept_at, conf, first_next, towards}
+use Rattle.frame_state.specs.Ground.{Ground, IsNode, IsGround, IsPart}
+use Rattle.frame_state.specs.Machine.{kept_at, conf, first_next, onward}
 use Rattle.frame_state.specs.Begun.{is_behind}
-use Rattle.frame_state.specs.Frames.{branch_rest, hand, fail, ahead, past}
+use Rattle.frame_state.specs.Frames.{beyond_by, hand, fail, ahead, past}
 use Rattle.frame_state.specs.Validity.{IsValid, Advances}
 use Rattle.frame_state.proofs.PartPaths.{tree_by, branches_by, branched_atomic, enter_atomic}
 use Rattle.frame_state.proofs.Advance.{holding_full, over_units}
@@ -37,7 +37,7 @@ module _ (c : Ground) (ok : IsGround c) (q : ℕ) (spot : Spot) (stack : List En
       opens c ok q spot stack caps v (node.Atomic ks) i
       (AtomicOpen (record { node = q; link = spot.frame }) (kept_at spot)) refl refl refl (λ a. refl) room
       q v.running.0 ks (kid_parts c q (node.Atomic ks) v.running.0 i) (branched_atomic c q (node.Atomic ks) i ks refl)
-      (ap (λ x. branch_rest c x (c.rest q)) (sym (tree_by c q (node.Atomic ks) i (node.Atomic ks) refl)))
+      (λ d k. ap (λ x. beyond_by c x d k q) (sym (tree_by c q (node.Atomic ks) i (node.Atomic ks) refl)))
       (branches_by c q (node.Atomic ks) i (node.Atomic ks) refl) (v.running.0, v.running.1, tt, v.running.2)
       (hand c stack caps spot.frame q)
       (caught_through c (AtomicOpen (record { node = q; link = spot.frame }) (kept_at spot)) stack caps refl refl)
@@ -72,7 +72,7 @@ module _ (c : Ground) (ok : IsGround c) (spot : Spot) (records : List Record) (c
 
   pub turn_atomic_left : spot.units < c.setting.matching.frame_limit →
       Advances c (conf End spot (entries records) caps)
-      (conf (towards (next_of c p.node)) (record spot { passed = p.passed; frame = p.link; units = spot.units + 1 })
+      (conf (onward c p.node) (record spot { passed = p.passed; frame = p.link; units = spot.units + 1 })
       (AtomicLeft (record { node = p.node; link = p.link }) (kept_at (record spot { frame = p.link })) h ∷ entries
       records) caps)
   turn_atomic_left room =

@@ -8,16 +8,16 @@ use Rattle.frame_store.specs.declared.records.Record.{Record}
 use Rattle.frame_store.specs.Captures.{Captures}
 use Rattle.frame_store.specs.Entry.{Site, Kept, Entry, LaterBranch, TurnOrExit, LaterTurn, FewerItems, MoreItems}
 use Rattle.frame_store.specs.Entry.{AtomicLeft, DenialOpen, LookTest, DenialTest, CommitPassed, PrunePassed}
-use Rattle.frame_store.specs.Entry.{SkipPassed, entry_of, entries, ThenPassed}
+use Rattle.frame_store.specs.Entry.{SkipPassed, entry_of, entries, ThenPassed, LaterTry}
 use Rattle.ordered_search.specs.Stream.{State}
 use Rattle.ordered_search.specs.PlaceAnswer.{answers, Failed, Exhausted}
 use Rattle.ordered_search.specs.Moves.{Moves, pause, Follow, reaching, tread, size}
 use Rattle.ordered_search.specs.Paths.{offer_paths, lazy_paths}
-use Rattle.frame_state.specs.declared.machine.Next.TheVariants.{Branch, Begin, Fewer, More, Back, Act, Leave}
+use Rattle.frame_state.specs.declared.machine.Next.TheVariants.{Branch, Try, Begin, Fewer, More, Back, Act, Leave}
 use Rattle.frame_state.specs.declared.machine.Acting.TheVariants as acting
 use Rattle.frame_state.specs.declared.machine.Spot.{Spot}
-use Rattle.frame_state.specs.Ground.{Ground, tree_of, next_of, IsGround, IsPart}
-use Rattle.frame_state.specs.Machine.{Around, Outside, less, state_at, Conf, conf, towards}
+use Rattle.frame_state.specs.Ground.{Ground, tree_of, IsGround, IsPart}
+use Rattle.frame_state.specs.Machine.{Around, Outside, less, state_at, Conf, conf, onward}
 use Rattle.frame_state.specs.Frames.{past, around, around_at, more_from, further_from, on_fail, outside, fail, ahead}
 use Rattle.frame_state.specs.Validity.{IsMany, HasFurther, IsSound, AreSound, IsValid, Advances, IsCondition}
 use Rattle.frame_state.specs.declared.machine.Met.{Met}
@@ -31,7 +31,7 @@ use Rattle.frame_store.specs.declared.kinds.TheConstants.{KIND_LATER_BRANCH, KIN
 use Rattle.frame_store.specs.declared.kinds.TheConstants.{KIND_FEWER_ITEMS, KIND_MORE_ITEMS, KIND_ATOMIC_LEFT}
 use Rattle.frame_store.specs.declared.kinds.TheConstants.{KIND_DENIAL_OPEN, KIND_LOOK_TEST, KIND_DENIAL_TEST}
 use Rattle.frame_store.specs.declared.kinds.TheConstants.{KIND_COMMIT_PASSED, KIND_PRUNE_PASSED, KIND_SKIP_PASSED}
-use Rattle.frame_store.specs.declared.kinds.TheConstants.{KIND_THEN_PASSED}
+use Rattle.frame_store.specs.declared.kinds.TheConstants.{KIND_THEN_PASSED, KIND_LATER_TRY}
 use Rattle.frame_store.specs.Entry.{site_of, kept_of, entry_kind}
 use Rattle.std.proofs.lemmas.List.{length-map}
 use Rattle.frame_store.specs.Stack as stack_of
@@ -44,7 +44,7 @@ use Rattle.frame_store.proofs.EntryLemmas.{entry_of-later_branch, entry_of-turn_
 use Rattle.frame_store.proofs.EntryLemmas.{entry_of-fewer_items, entry_of-more_items, entry_of-atomic_left}
 use Rattle.frame_store.proofs.EntryLemmas.{entry_of-denial_open, entry_of-look_test, entry_of-denial_test}
 use Rattle.frame_store.proofs.EntryLemmas.{entry_of-commit_passed, entry_of-prune_passed, entry_of-skip_passed}
-use Rattle.frame_store.proofs.EntryLemmas.{entry_kind-not, entry_of-then_passed}
+use Rattle.frame_store.proofs.EntryLemmas.{entry_kind-not, entry_of-then_passed, entry_of-later_try}
 use Rattle.frame_store.proofs.UndoLemmas.{length-taken_back, undone-cons, undone-nil}
 use Rattle.frame_state.specs.Stops.{restored, IsFurther, more_next, tells, IsStop}
 use Rattle.frame_state.proofs.Frames.{spans_back}
@@ -61,10 +61,18 @@ module _ (c : Ground) (ok : IsGround c) (spot : Spot) (stack : List Entry) (caps
   back_branch site kept next v = advance_pause c _ _ _ refl refl refl
       (record { running = v.records.0; records = v.records.1; spans = v.spans; slots = v.slots })
 
+  back_try : (site : Site) (kept : Kept) (n : ℕ)
+      → IsValid c (conf Back spot (LaterTry site kept n ∷ stack) caps) →
+      Advances c (conf Back spot (LaterTry site kept n ∷ stack) caps)
+      (conf (Try site.node n) (restored spot site kept) stack caps)
+  unfolding fail
+  back_try site kept n v = advance_pause c _ _ _ refl refl refl
+      (record { running = v.records.0; records = v.records.1; spans = v.spans; slots = v.slots })
+
   back_exit : (site : Site) (kept : Kept) (count : ℕ)
       → IsValid c (conf Back spot (TurnOrExit site kept count ∷ stack) caps) →
       Advances c (conf Back spot (TurnOrExit site kept count ∷ stack) caps)
-      (conf (towards (next_of c site.node)) (restored spot site kept) stack caps)
+      (conf (onward c site.node) (restored spot site kept) stack caps)
   unfolding fail
   back_exit site kept count v = goes_on c _ (restored spot site kept) stack caps v.records.1 v.spans v.slots ok
       site.node v.records.0.0 v.records.0.3 v.records.0.1 refl refl
@@ -173,7 +181,7 @@ module _ (c : Ground) (ok : IsGround c) (spot : Spot) (stack : List Entry) (caps
   -- a negative lookaround has failed
   back_denial : (site : Site) (kept : Kept) → IsValid c (conf Back spot (DenialOpen site kept ∷ stack) caps) →
       Advances c (conf Back spot (DenialOpen site kept ∷ stack) caps)
-      (conf (towards (next_of c site.node)) (restored spot site kept) stack caps)
+      (conf (onward c site.node) (restored spot site kept) stack caps)
   unfolding fail
   back_denial site kept v = goes_on c _ (restored spot site kept) stack caps v.records.1 v.spans v.slots ok site.node
       v.records.0.0 v.records.0.3 v.records.0.1 refl refl
@@ -259,22 +267,23 @@ leaves_nothing : (c : Ground) (r : Entry) → entry_kind r ≢ KIND_LATER_BRANCH
     → entry_kind r ≢ KIND_LATER_TURN → entry_kind r ≢ KIND_FEWER_ITEMS → entry_kind r ≢ KIND_MORE_ITEMS
     → entry_kind r ≢ KIND_ATOMIC_LEFT → entry_kind r ≢ KIND_DENIAL_OPEN → entry_kind r ≢ KIND_LOOK_TEST →
     entry_kind r ≢ KIND_DENIAL_TEST → entry_kind r ≢ KIND_COMMIT_PASSED → entry_kind r ≢ KIND_PRUNE_PASSED
-    → entry_kind r ≢ KIND_SKIP_PASSED → entry_kind r ≢ KIND_THEN_PASSED →
+    → entry_kind r ≢ KIND_SKIP_PASSED → entry_kind r ≢ KIND_THEN_PASSED → entry_kind r ≢ KIND_LATER_TRY →
     (a : Around) (k : Outside) (x : Captures) (out : Moves) (to : ℕ → Moves) → on_fail c r a k x out to ≡ out
-leaves_nothing c (LaterBranch at kept next) b e l f m g d t w z y u h a k x out to = absurd (b refl)
-leaves_nothing c (TurnOrExit at kept count) b e l f m g d t w z y u h a k x out to = absurd (e refl)
-leaves_nothing c (LaterTurn at kept count) b e l f m g d t w z y u h a k x out to = absurd (l refl)
-leaves_nothing c (FewerItems at kept least last) b e l f m g d t w z y u h a k x out to = absurd (f refl)
-leaves_nothing c (MoreItems at kept count last) b e l f m g d t w z y u h a k x out to = absurd (m refl)
-leaves_nothing c (AtomicLeft at kept height) b e l f m g d t w z y u h a k x out to = absurd (g refl)
-leaves_nothing c (DenialOpen at kept) b e l f m g d t w z y u h a k x out to = absurd (d refl)
-leaves_nothing c (LookTest at kept) b e l f m g d t w z y u h a k x out to = absurd (t refl)
-leaves_nothing c (DenialTest at kept) b e l f m g d t w z y u h a k x out to = absurd (w refl)
-leaves_nothing c (CommitPassed at kept height) b e l f m g d t w z y u h a k x out to = absurd (z refl)
-leaves_nothing c (PrunePassed at kept height) b e l f m g d t w z y u h a k x out to = absurd (y refl)
-leaves_nothing c (SkipPassed at kept height next) b e l f m g d t w z y u h a k x out to = absurd (u refl)
-leaves_nothing c (ThenPassed at kept) b e l f m g d t w z y u h a k x out to = absurd (h refl)
-leaves_nothing c _ b e l f m g d t w z y u h a k x out to = refl
+leaves_nothing c (LaterBranch at kept next) b e l f m g d t w z y u h j a k x out to = absurd (b refl)
+leaves_nothing c (TurnOrExit at kept count) b e l f m g d t w z y u h j a k x out to = absurd (e refl)
+leaves_nothing c (LaterTurn at kept count) b e l f m g d t w z y u h j a k x out to = absurd (l refl)
+leaves_nothing c (FewerItems at kept least last) b e l f m g d t w z y u h j a k x out to = absurd (f refl)
+leaves_nothing c (MoreItems at kept count last) b e l f m g d t w z y u h j a k x out to = absurd (m refl)
+leaves_nothing c (AtomicLeft at kept height) b e l f m g d t w z y u h j a k x out to = absurd (g refl)
+leaves_nothing c (DenialOpen at kept) b e l f m g d t w z y u h j a k x out to = absurd (d refl)
+leaves_nothing c (LookTest at kept) b e l f m g d t w z y u h j a k x out to = absurd (t refl)
+leaves_nothing c (DenialTest at kept) b e l f m g d t w z y u h j a k x out to = absurd (w refl)
+leaves_nothing c (CommitPassed at kept height) b e l f m g d t w z y u h j a k x out to = absurd (z refl)
+leaves_nothing c (PrunePassed at kept height) b e l f m g d t w z y u h j a k x out to = absurd (y refl)
+leaves_nothing c (SkipPassed at kept height next) b e l f m g d t w z y u h j a k x out to = absurd (u refl)
+leaves_nothing c (ThenPassed at kept) b e l f m g d t w z y u h j a k x out to = absurd (h refl)
+leaves_nothing c (LaterTry at kept n) b e l f m g d t w z y u h j a k x out to = absurd (j refl)
+leaves_nothing c _ b e l f m g d t w z y u h j a k x out to = refl
 
 -- the same, of the records
 module _ (c : Ground) (ok : IsGround c) (spot : Spot) (old older : List Record) (r : Record) (caps now : Captures)
@@ -297,10 +306,16 @@ module _ (c : Ground) (ok : IsGround c) (spot : Spot) (old older : List Record) 
       (λ x. conf (Branch r.node r.count) (restored spot (site_of r) (kept_of r)) (entries older) x)
       (back_branch c ok spot (entries older) caps (site_of r) (kept_of r) r.count)
 
+  pub pop_try : r.kind ≡ KIND_LATER_TRY → Advances c (conf Back spot (entries old) caps)
+      (conf (Try r.node r.count) (restored spot (site_of r) (kept_of r)) (entries older) now)
+  pop_try e = pop_as _ (entry_of-later_try r e)
+      (λ x. conf (Try r.node r.count) (restored spot (site_of r) (kept_of r)) (entries older) x)
+      (back_try c ok spot (entries older) caps (site_of r) (kept_of r) r.count)
+
   pub pop_exit : r.kind ≡ KIND_TURN_OR_EXIT → Advances c (conf Back spot (entries old) caps)
-      (conf (towards (next_of c r.node)) (restored spot (site_of r) (kept_of r)) (entries older) now)
+      (conf (onward c r.node) (restored spot (site_of r) (kept_of r)) (entries older) now)
   pop_exit e = pop_as _ (entry_of-turn_or_exit r e)
-      (λ x. conf (towards (next_of c r.node)) (restored spot (site_of r) (kept_of r)) (entries older) x)
+      (λ x. conf (onward c r.node) (restored spot (site_of r) (kept_of r)) (entries older) x)
       (back_exit c ok spot (entries older) caps (site_of r) (kept_of r) r.count)
 
   pub pop_later : r.kind ≡ KIND_LATER_TURN → Advances c (conf Back spot (entries old) caps)
@@ -318,9 +333,9 @@ module _ (c : Ground) (ok : IsGround c) (spot : Spot) (old older : List Record) 
       (back_fewer c ok spot (entries older) caps (site_of r) (kept_of r) r.from r.to)
 
   pub pop_denial : r.kind ≡ KIND_DENIAL_OPEN → Advances c (conf Back spot (entries old) caps)
-      (conf (towards (next_of c r.node)) (restored spot (site_of r) (kept_of r)) (entries older) now)
+      (conf (onward c r.node) (restored spot (site_of r) (kept_of r)) (entries older) now)
   pop_denial e = pop_as _ (entry_of-denial_open r e)
-      (λ x. conf (towards (next_of c r.node)) (restored spot (site_of r) (kept_of r)) (entries older) x)
+      (λ x. conf (onward c r.node) (restored spot (site_of r) (kept_of r)) (entries older) x)
       (back_denial c ok spot (entries older) caps (site_of r) (kept_of r))
 
   pub pop_then : r.kind ≡ KIND_THEN_PASSED → Advances c (conf Back spot (entries old) caps)
@@ -507,9 +522,9 @@ module _ (c : Ground) (ok : IsGround c) (spot : Spot) (old older : List Record) 
       → r.kind ≢ KIND_FEWER_ITEMS → r.kind ≢ KIND_MORE_ITEMS → r.kind ≢ KIND_ATOMIC_LEFT → r.kind ≢ KIND_DENIAL_OPEN
       → r.kind ≢ KIND_LOOK_TEST →
       r.kind ≢ KIND_DENIAL_TEST → r.kind ≢ KIND_COMMIT_PASSED → r.kind ≢ KIND_PRUNE_PASSED → r.kind ≢ KIND_SKIP_PASSED
-      → r.kind ≢ KIND_THEN_PASSED → Advances c (conf Back spot (entries old) caps)
+      → r.kind ≢ KIND_THEN_PASSED → r.kind ≢ KIND_LATER_TRY → Advances c (conf Back spot (entries old) caps)
       (conf Back spot (entries older) now)
-  pop_plain b x l f m g d t w z y u h =
+  pop_plain b x l f m g d t w z y u h j =
       pop_as (entry_of r) refl (λ z. conf Back spot (entries older) z)
       (back_plain c ok spot (entries older) caps (entry_of r)
       (leaves_nothing c (entry_of r) (entry_kind-not r KIND_LATER_BRANCH (omega arith) b)
@@ -518,7 +533,8 @@ module _ (c : Ground) (ok : IsGround c) (spot : Spot) (old older : List Record) 
       (entry_kind-not r KIND_ATOMIC_LEFT (omega arith) g) (entry_kind-not r KIND_DENIAL_OPEN (omega arith) d)
       (entry_kind-not r KIND_LOOK_TEST (omega arith) t) (entry_kind-not r KIND_DENIAL_TEST (omega arith) w)
       (entry_kind-not r KIND_COMMIT_PASSED (omega arith) z) (entry_kind-not r KIND_PRUNE_PASSED (omega arith) y)
-      (entry_kind-not r KIND_SKIP_PASSED (omega arith) u) (entry_kind-not r KIND_THEN_PASSED (omega arith) h)))
+      (entry_kind-not r KIND_SKIP_PASSED (omega arith) u) (entry_kind-not r KIND_THEN_PASSED (omega arith) h)
+      (entry_kind-not r KIND_LATER_TRY (omega arith) j)))
 
 -- nothing is left
 pub stop_none : (c : Ground) (spot : Spot) (old : List Record) (caps : Captures) → old ≡ []

@@ -16,8 +16,8 @@ use Rattle.ordered_search.specs.Moves.{Moves, pause, found, Follow, holding, tre
 use Rattle.ordered_search.specs.Paths.{paths, turned}
 use Rattle.frame_state.specs.declared.machine.Next.TheVariants.{Offer, Back, End}
 use Rattle.frame_state.specs.declared.machine.Spot.{Spot}
-use Rattle.frame_state.specs.Ground.{Ground, tree_of, next_of, IsGround, IsPart}
-use Rattle.frame_state.specs.Machine.{Around, Outside, less, state_at, kept_at, link_of, entry_kept, conf, towards}
+use Rattle.frame_state.specs.Ground.{Ground, tree_of, IsGround, IsPart}
+use Rattle.frame_state.specs.Machine.{Around, Outside, less, state_at, kept_at, link_of, entry_kept, conf, onward}
 use Rattle.frame_state.specs.Frames.{frame_around, around_at, past, offer_from, turned_from, close_from, around}
 use Rattle.frame_state.specs.Frames.{frame_end, cont, outside, fail, spot_state, ahead, hand}
 use Rattle.frame_state.specs.Validity.{IsContained, IsLater, IsRepeat, IsCapture, SpanStands, IsSound, AreSound}
@@ -184,7 +184,7 @@ module _ (c : Ground) (ok : IsGround c) (spot : Spot) (records : List Record) (c
 
       pub turn_close : 0 < m → m ≤ length caps → spot.units < c.setting.matching.frame_limit →
           Advances c (conf End spot (entries records) caps)
-          (conf (towards (next_of c site.node)) (record spot { frame = site.link; units = spot.units + 1 })
+          (conf (onward c site.node) (record spot { frame = site.link; units = spot.units + 1 })
           (Undo (record { node = site.node; link = site.link }) m (capture caps m) ∷ entries records)
           (with_capture caps m (Some (record { from = kept.place; to = spot.place }))))
       unfolding fail
@@ -200,7 +200,7 @@ module _ (c : Ground) (ok : IsGround c) (spot : Spot) (records : List Record) (c
           let inside : IsPart c site.node = g.sound.0 in
           advance_pause c _ _ _
           (closing ∙ ap pause (holding_room c.setting _ _ room))
-          (focus_kept c r stack new (towards (next_of c site.node)) site.link spot.passed (kept_at to) new
+          (focus_kept c r stack new (onward c site.node) site.link spot.passed (kept_at to) new
           (fail c (r ∷ stack) new) g.link w.marked refl (begun_towards c ok site.node inside)
           ∙ focus_towards c ok site.node inside _ _ _ _
           ∙ ap (λ (x : Captures). past c (around c stack site.link).depth (outside c stack x site.link) site.node
@@ -320,7 +320,7 @@ module _ (c : Ground) (ok : IsGround c) (spot : Spot) (records : List Record) (c
 
     pub turn_over : took_nothing low high count kept.place spot.place ≡ true →
         Advances c (conf End spot (entries records) caps)
-        (conf (towards (next_of c site.node)) (record spot { frame = site.link }) (entries records) caps)
+        (conf (onward c site.node) (record spot { frame = site.link }) (entries records) caps)
     turn_over e =
         let w = v.running in
         goes_on c _ (record spot { frame = site.link }) (entries records) caps v.records v.spans v.slots ok site.node
@@ -415,7 +415,7 @@ module _ (c : Ground) (ok : IsGround c) (spot : Spot) (records : List Record) (c
 
       pub turn_open : 0 < m → m ≤ c.setting.groups → spot.units < c.setting.matching.frame_limit →
           Advances c (conf End spot (entries records) caps)
-          (conf (towards (next_of c p.node)) (record spot { frame = p.link; units = spot.units + 1 })
+          (conf (onward c p.node) (record spot { frame = p.link; units = spot.units + 1 })
           (Undo (record { node = p.node; link = p.link }) m (capture caps m) ∷ entries records)
           (with_capture caps m (Some (record { from = p.place; to = spot.place }))))
       turn_open some few room =
@@ -439,7 +439,7 @@ module _ (c : Ground) (ok : IsGround c) (spot : Spot) (records : List Record) (c
         (t : tree.repeat (tree_of c body) low high lazily ≡ tree_of c p.node) where
       pub turn_ended : took_nothing low high p.count p.place spot.place ≡ true →
           Advances c (conf End spot (entries records) caps)
-          (conf (towards (next_of c p.node)) (record spot { frame = p.link }) (entries records) caps)
+          (conf (onward c p.node) (record spot { frame = p.link }) (entries records) caps)
       turn_ended e =
           elim kind [
             | inl k ↦ turn_over c ok spot records caps v h at_height p at (site_of p) (kept_of p) p.count body low

@@ -13,9 +13,9 @@ use Rattle.ordered_search.specs.Paths.{offer_paths, offer_path, lazy_paths, many
 use Rattle.frame_state.specs.declared.machine.Next.{Next}
 use Rattle.frame_state.specs.declared.machine.Next.TheVariants.{Enter, Fewer, More, Back}
 use Rattle.frame_state.specs.declared.machine.Spot.{Spot}
-use Rattle.frame_state.specs.Ground.{Ground, tree_of, next_of, IsGround}
+use Rattle.frame_state.specs.Ground.{Ground, tree_of, IsGround}
 use Rattle.match_items.specs.Views.{end_of}
-use Rattle.frame_state.specs.Machine.{Around, less, kept_at, conf, towards}
+use Rattle.frame_state.specs.Machine.{Around, less, kept_at, conf, onward}
 use Rattle.frame_state.specs.Frames.{past, around, more_from, further_from, fewer_places, outside, fail, spot_state}
 use Rattle.frame_state.specs.Frames.{ahead}
 use Rattle.frame_state.specs.Validity.{StandsAt, IsStanding, IsMany, HasFurther, IsValid, Advances}
@@ -268,7 +268,7 @@ module _ (c : Ground) (ok : IsGround c) (q from to : ℕ) (spot : Spot) (stack :
   stop_fewer_units lt left full = over_units_step c spot.left _ _ (fewer_more lt) (holding_full c.setting _ _ full) left
 
   pub turn_fewer_last : to ≤ from → 0 < spot.left → Advances c (conf (Fewer q from to) spot stack caps)
-      (conf (towards (next_of c q)) (record spot { place = to; left = spot.left - 1 }) stack caps)
+      (conf (onward c q) (record spot { place = to; left = spot.left - 1 }) stack caps)
   turn_fewer_last le left =
       goes_on_step c _ (record spot { place = to; left = spot.left - 1 }) stack caps
       (sound_less c spot.left (spot.left - 1) (length caps) stack (omega arith) v.records) v.spans v.slots ok q
@@ -278,7 +278,7 @@ module _ (c : Ground) (ok : IsGround c) (q from to : ℕ) (spot : Spot) (stack :
 
   pub turn_fewer_more : from < to → 0 < spot.left → spot.units < c.setting.matching.frame_limit →
       Advances c (conf (Fewer q from to) spot stack caps)
-      (conf (towards (next_of c q)) (record spot { place = to; left = spot.left - 1; units = spot.units + 1 })
+      (conf (onward c q) (record spot { place = to; left = spot.left - 1; units = spot.units + 1 })
       (FewerItems (record { node = q; link = spot.frame }) (kept_at spot) from to ∷ stack) caps)
   unfolding fail
   turn_fewer_more lt left room =
@@ -287,7 +287,7 @@ module _ (c : Ground) (ok : IsGround c) (q from to : ℕ) (spot : Spot) (stack :
       let w = v.running.1 in
       advance_step c _ _ _
       (fewer_more lt ∙ ap stepped (holding_room c.setting _ _ room))
-      (focus_kept c r stack caps (towards (next_of c q)) spot.frame spot.passed (kept_at to') caps
+      (focus_kept c r stack caps (onward c q) spot.frame spot.passed (kept_at to') caps
       (fail c (r ∷ stack) caps) w.inside w.marked refl (begun_towards c ok q v.running.0)
       ∙ focus_towards c ok q v.running.0 _ _ _ _)
       (omega arith) refl
@@ -377,7 +377,7 @@ module _ (c : Ground) (ok : IsGround c) (q count to : ℕ) (spot : Spot) (stack 
 
   pub turn_more_last : is_none_left (less count high) ≡ true → 0 < spot.left
       → Advances c (conf (More q count to) spot stack caps)
-      (conf (towards (next_of c q)) (record spot { place = to; left = spot.left - 1 }) stack caps)
+      (conf (onward c q) (record spot { place = to; left = spot.left - 1 }) stack caps)
   turn_more_last e left =
       let w = v.running.1 in
       goes_on_step c _ (record spot { place = to; left = spot.left - 1 }) stack caps
@@ -396,7 +396,7 @@ module _ (c : Ground) (ok : IsGround c) (q count to : ℕ) (spot : Spot) (stack 
   pub turn_more_more : is_none_left (less count high) ≡ false → 0 < spot.left
       → spot.units < c.setting.matching.frame_limit →
       Advances c (conf (More q count to) spot stack caps)
-      (conf (towards (next_of c q)) (record spot { place = to; left = spot.left - 1; units = spot.units + 1 })
+      (conf (onward c q) (record spot { place = to; left = spot.left - 1; units = spot.units + 1 })
       (MoreItems (record { node = q; link = spot.frame }) (kept_at spot) count to ∷ stack) caps)
   unfolding fail
   turn_more_more e left room =
@@ -405,7 +405,7 @@ module _ (c : Ground) (ok : IsGround c) (q count to : ℕ) (spot : Spot) (stack 
       let w = v.running.1 in
       advance_step c _ _ _
       (more_more e ∙ ap stepped (holding_room c.setting _ _ room))
-      (focus_kept c r stack caps (towards (next_of c q)) spot.frame spot.passed (kept_at to') caps
+      (focus_kept c r stack caps (onward c q) spot.frame spot.passed (kept_at to') caps
       (fail c (r ∷ stack) caps) w.inside w.marked refl (begun_towards c ok q v.running.0)
       ∙ focus_towards c ok q v.running.0 _ _ _ _)
       (omega arith) refl

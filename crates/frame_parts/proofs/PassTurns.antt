@@ -23,7 +23,7 @@ use Rattle.frame_state.specs.declared.machine.Next.TheVariants.{Enter, Branch, F
 use Rattle.frame_state.specs.declared.machine.Spot.{Spot}
 use Rattle.frame_state.specs.declared.machine.Stop.{Stop}
 use Rattle.frame_state.specs.Ground.{Ground, tree_of, next_of, IsNode, IsGround, IsPart}
-use Rattle.frame_state.specs.Machine.{Conf, less, kept_at, conf, towards}
+use Rattle.frame_state.specs.Machine.{Conf, less, kept_at, conf, towards, onward}
 use Rattle.frame_state.specs.Validity.{IsValid, Advances}
 use Rattle.frame_state.specs.Stops.{Told, moved_next, moved_spot, held_next, held_early, record_at, restored, IsMost}
 use Rattle.frame_state.specs.Stops.{IsStop, IsFurther}
@@ -41,8 +41,9 @@ use Rattle.frame_parts.proofs.Runs.{run_at, longest_none}
 use Rattle.frame_parts.proofs.ItemTurns.{turn_short, turn_fewer_more, turn_more_more}
 use Rattle.frame_parts.proofs.BackTurns.{back_branch, back_fewer, back_further_some, back_plain}
 use Rattle.frame_state.proofs.BranchTurns.{turn_next_branch}
-use Rattle.frame_state.specs.Begun.{is_behind, begun_place, begun_next, begun_spot}
+use Rattle.frame_state.specs.Begun.{Begun, is_behind, begun_place, begun_next, begun_spot}
 use Rattle.frame_state.specs.Branches.{AreBranches}
+use Rattle.frame_state.specs.Ground.{settles}
 
 some_none : (p : ℕ) → Some p ≡ None → ⊥
 some_none p e = cc
@@ -199,7 +200,7 @@ module _ (c : Ground) (ok : IsGround c) where
         let closed : Advances c (conf End spot (entries records) caps)
         (conf (Enter next) to (undo ∷ entries records) new) =
         subst (λ o. Advances c (conf End spot (entries records) caps)
-        (conf (towards o) to (undo ∷ entries records) new)) is
+        (conf (towards o (settles c p.node)) to (undo ∷ entries records) new)) is
         (turn_open c ok spot records caps v h height p at kind m g.is g.some g.few (omega (arith, room))) in
         let failed = b.fails to (undo ∷ entries records) new closed.valid (omega (arith, room)) none in
         let undone : Advances c (conf Back failed.spot (undo ∷ entries records) new)
@@ -229,7 +230,7 @@ module _ (c : Ground) (ok : IsGround c) where
   -- a run of a greedy repeat is refused
   pub fewer_refused : (q from to : ℕ) (spot : Spot) (records : List Record) (caps : Captures)
       → IsValid c (conf (Fewer q from to) spot (entries records) caps) → (need : Need) (units : ℕ) →
-      IsFollower c (towards (next_of c q)) spot.frame records caps need units → from < to → 0 < spot.left
+      IsFollower c (onward c q) spot.frame records caps need units → from < to → 0 < spot.left
       → spot.units + units < c.setting.matching.frame_limit → IsMissing c need to →
       Advances c (conf (Fewer q from to) spot (entries records) caps)
       (conf (Fewer q from (place_before c.setting.scene to)) (record spot { left = spot.left - 1 })
@@ -251,17 +252,17 @@ module _ (c : Ground) (ok : IsGround c) where
 
   pub pass_run : (m : Conf) (q from to : ℕ) (spot : Spot) (records : List Record) (caps : Captures)
       → Reaches c m (conf (Fewer q from to) spot (entries records) caps) → (need : Need) (height units : ℕ) →
-      IsFollower c (towards (next_of c q)) height records caps need units → height ≡ spot.frame → from < to
+      IsFollower c (onward c q) height records caps need units → height ≡ spot.frame → from < to
       → 0 < spot.left → spot.units + units < c.setting.matching.frame_limit → IsMissing c need to →
       Reaches c m (conf (Fewer q from (place_before c.setting.scene to)) (record spot { left = spot.left - 1 })
       (entries records) caps)
   pass_run m q from to spot records caps r need height units f same lt left room none =
       goes_further c _ _ _ r (fewer_refused q from to spot records caps r.valid need units
-      (subst (λ x. IsFollower c (towards (next_of c q)) x records caps need units) same f) lt left room none)
+      (subst (λ x. IsFollower c (onward c q) x records caps need units) same f) lt left room none)
 
   -- runs that end too far from the subject's end
   module _ (m : Conf) (q from : ℕ) (records : List Record) (caps : Captures) (need : Need) (height units : ℕ)
-      (f : IsFollower c (towards (next_of c q)) height records caps need units) (far : ℕ)
+      (f : IsFollower c (onward c q) height records caps need units) (far : ℕ)
       (a : AreFar c need far) where
     pass_far : (k to : ℕ) (spot : Spot) → Reaches c m (conf (Fewer q from to) spot (entries records) caps)
         → height ≡ spot.frame → to ≤ far → k ≤ to - from → k ≤ spot.left →
@@ -303,7 +304,7 @@ module _ (c : Ground) (ok : IsGround c) where
   pub more_refused : c.setting.matching.«partial» ≡ Off
       → (q count to : ℕ) (spot : Spot) (records : List Record) (caps : Captures)
       → IsValid c (conf (More q count to) spot (entries records) caps) → (need : Need) (units : ℕ) →
-      IsFollower c (towards (next_of c q)) spot.frame records caps need units → (high : Option ℕ)
+      IsFollower c (onward c q) spot.frame records caps need units → (high : Option ℕ)
       → IsMost (tree_of c q) high → is_none_left (less count high) ≡ false → 0 < spot.left →
       spot.units + units < c.setting.matching.frame_limit → IsMissing c need to → (p : ℕ)
       → IsFurther c (tree_of c q) to (Some p) → (j : ℕ) → j ≡ suc count →
@@ -334,7 +335,7 @@ module _ (c : Ground) (ok : IsGround c) where
   pub pass_further : c.setting.matching.«partial» ≡ Off
       → (m : Conf) (q count to : ℕ) (spot : Spot) (records : List Record) (caps : Captures)
       → Reaches c m (conf (More q count to) spot (entries records) caps) → (need : Need) (height units : ℕ) →
-      IsFollower c (towards (next_of c q)) height records caps need units → height ≡ spot.frame → (high : Option ℕ)
+      IsFollower c (onward c q) height records caps need units → height ≡ spot.frame → (high : Option ℕ)
       → IsMost (tree_of c q) high → is_none_left (less count high) ≡ false → 0 < spot.left →
       spot.units + units < c.setting.matching.frame_limit → IsMissing c need to → (p : ℕ)
       → IsFurther c (tree_of c q) to (Some p) → (j : ℕ) → j ≡ suc count →
@@ -343,7 +344,7 @@ module _ (c : Ground) (ok : IsGround c) where
       same =
       goes_further c _ _ _ r
       (more_refused off q count to spot records caps r.valid need units
-      (subst (λ x. IsFollower c (towards (next_of c q)) x records caps need units) at f) high is some left room
+      (subst (λ x. IsFollower c (onward c q) x records caps need units) at f) high is some left room
       none p further j same)
 
   -- a branch that begins with an item
@@ -389,7 +390,7 @@ module _ (c : Ground) (ok : IsGround c) where
       let site : Site = record { node = q; link = spot.frame } in
       let to : Spot = record spot { left = spot.left - 1; units = spot.units + 1 } in
       let later : Entry = LaterBranch site (kept_at spot) j' in
-      let start : Option ℕ = begun_place c p spot.place in
+      let start : Option Begun = begun_place c p spot.place in
       let first : Advances c (conf (Branch q j) spot stack caps) (conf (Enter p) to (later ∷ stack) caps) =
       subst (λ x. Advances c (conf (Branch q j) spot stack caps)
       (conf (begun_next x start p) (begun_spot x start to) (later ∷ stack) caps)) plain

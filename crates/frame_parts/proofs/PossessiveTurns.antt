@@ -20,8 +20,8 @@ use Rattle.frame_state.specs.declared.machine.Next.TheVariants.{Enter, Back}
 use Rattle.frame_state.specs.declared.machine.Spot.{Spot}
 use Rattle.frame_parts.specs.declared.possessive.ItemRepeat.{ItemRepeat}
 use Rattle.frame_parts.specs.declared.possessive.FirstPlace.{FirstPlace}
-use Rattle.frame_state.specs.Ground.{Ground, next_of, IsNode, IsGround}
-use Rattle.frame_state.specs.Machine.{less, conf, towards}
+use Rattle.frame_state.specs.Ground.{Ground, IsNode, IsGround}
+use Rattle.frame_state.specs.Machine.{less, conf, onward}
 use Rattle.frame_state.specs.Stops.{told, tells, IsStop}
 use Rattle.frame_state.specs.Frames.{past, around, outside, fail, spot_state, ahead, fewer_places}
 use Rattle.frame_state.specs.Validity.{IsValid, Advances}
@@ -302,7 +302,7 @@ module _ (c : Ground) (ok : IsGround c) (q : ℕ) (spot : Spot) (stack : List En
         }
 
         pub turn_passed : 0 < spot.left → spot.units + units_of p.further ≤ c.setting.matching.frame_limit
-            → Advances c (conf (Enter q) spot stack caps) (conf (towards (next_of c q)) after_it stack caps)
+            → Advances c (conf (Enter q) spot stack caps) (conf (onward c q) after_it stack caps)
         unfolding tread size
         turn_passed left few =
             let w = v.running.1 in
@@ -312,7 +312,7 @@ module _ (c : Ground) (ok : IsGround c) (q : ℕ) (spot : Spot) (stack : List En
             held (Some p) some ∙ ap (λ x. pause (reaching c.setting flag within (stepped x)))
             (handed_room p.further moved refl few) in
             let longer = noted.longer within (stepped z) refl in
-            let n : ahead c (conf (towards (next_of c q)) after_it stack caps) ≡ z =
+            let n : ahead c (conf (onward c q) after_it stack caps) ≡ z =
             focus_towards c ok q v.running.0 _ _ _ _ in
             record {
               answer =

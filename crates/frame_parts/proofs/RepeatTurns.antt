@@ -12,17 +12,19 @@ use Rattle.ordered_search.specs.Moves.{Moves, pause, stepped, Follow, tread, Han
 use Rattle.ordered_search.specs.Paths.{paths}
 use Rattle.frame_state.specs.declared.machine.Next.TheVariants.{Enter, Offer, Begin, End}
 use Rattle.frame_state.specs.declared.machine.Spot.{Spot}
-use Rattle.frame_state.specs.Ground.{Ground, tree_of, next_of, IsGround, IsPart}
-use Rattle.frame_state.specs.Machine.{Around, less, link_of, kept_at, conf, towards, Outside}
-use Rattle.frame_state.specs.Frames.{after, past, enter, turned_from, around, outside, fail, spot_state, ahead, hand}
+use Rattle.frame_state.specs.Ground.{Ground, tree_of, IsGround, IsPart}
+use Rattle.frame_state.specs.Machine.{Around, less, link_of, kept_at, conf, onward, Outside}
+use Rattle.frame_state.specs.Frames.{past, enter, turned_from, around, outside, fail, spot_state, ahead, hand}
 use Rattle.frame_state.specs.Validity.{IsStanding, AreSound, IsRunning, IsValid, Advances}
 use Rattle.frame_state.specs.Stops.{turn_entry}
-use Rattle.frame_state.proofs.PartPaths.{after_nil, offer_below, offer_full, offer_greedy, offer_lazy, begin_step}
+use Rattle.frame_state.proofs.PartPaths.{offer_below, offer_full, offer_greedy, offer_lazy, begin_step}
 use Rattle.frame_state.proofs.Frames.{around_here, around_push, focus_kept, focus_framed, sound_less, focus_towards}
 use Rattle.frame_state.proofs.Frames.{running_towards, begun_towards, caught_through, hand_frame, later_push}
 use Rattle.frame_state.proofs.Frames.{later_none, contained_push, contained_none, inside_of}
 use Rattle.frame_state.proofs.Advance.{holding_room, holding_full, advance_pause, advance_step, over_steps}
 use Rattle.frame_state.proofs.Advance.{over_units, over_units_step, goes_on}
+use Rattle.frame_state.proofs.PartPaths.{past_end}
+use Rattle.frame_state.specs.Ground.{settles_by}
 
 module _ (c : Ground) (ok : IsGround c) (q i : ℕ) (spot : Spot) (stack : List Entry) (caps : Captures) (body : ℕ)
     (low : ℕ) (high : Option ℕ) (lazily : Bool)
@@ -51,7 +53,7 @@ module _ (c : Ground) (ok : IsGround c) (q i : ℕ) (spot : Spot) (stack : List 
         refl (begins false)
 
     pub turn_full : low ≤ i → is_none_left (less i high) ≡ true
-        → Advances c (conf (Offer q i) spot stack caps) (conf (towards (next_of c q)) spot stack caps)
+        → Advances c (conf (Offer q i) spot stack caps) (conf (onward c q) spot stack caps)
     turn_full ge e =
         goes_on c _ spot stack caps v.records v.spans v.slots ok q v.running.0 v.running.3 standing_exit refl
         (offer_full c q i _ (tree_of c body) low high lazily t _ _ _ deep ge e)
@@ -64,7 +66,7 @@ module _ (c : Ground) (ok : IsGround c) (q i : ℕ) (spot : Spot) (stack : List 
     pub turn_lazy : low ≤ i → is_none_left (less i high) ≡ false → lazily ≡ true
         → spot.units < c.setting.matching.frame_limit →
         Advances c (conf (Offer q i) spot stack caps)
-        (conf (towards (next_of c q)) (record spot { units = spot.units + 1 })
+        (conf (onward c q) (record spot { units = spot.units + 1 })
         (LaterTurn (record { node = q; link = spot.frame }) (kept_at spot) i ∷ stack) caps)
     unfolding fail
     turn_lazy ge e is room =
@@ -74,7 +76,7 @@ module _ (c : Ground) (ok : IsGround c) (q i : ℕ) (spot : Spot) (stack : List 
         advance_pause c _ _ _
         (offer_lazy c q i _ (tree_of c body) low high lazily t _ _ _ deep ge e is
         ∙ ap pause (holding_room c.setting _ _ room))
-        (focus_kept c r stack caps (towards (next_of c q)) spot.frame spot.passed (kept_at to) caps
+        (focus_kept c r stack caps (onward c q) spot.frame spot.passed (kept_at to) caps
         (fail c (r ∷ stack) caps) w.inside w.marked refl (begun_towards c ok q v.running.0)
         ∙ focus_towards c ok q v.running.0 _ _ _ _)
         refl
@@ -117,7 +119,7 @@ module _ (c : Ground) (ok : IsGround c) (q i : ℕ) (spot : Spot) (stack : List 
         over_units_step c spot.left _ _ (begin_step c q i _ (tree_of c body) low high lazily t _ _ _ deep_begin b)
         (holding_full c.setting _ _ full) left
 
-    module _ (inside : IsPart c body) (alone : c.rest body ≡ []) (left : 0 < spot.left)
+    module _ (inside : IsPart c body) (alone : (c.rest body ≡ []) × (c.look_branch body ≡ None)) (left : 0 < spot.left)
         (room : spot.units < c.setting.matching.frame_limit) where
       entered : (K : Outside) (u : State) (f : Moves) (h : Handler) → h ≡ K.hand body →
           paths c.setting ((around c stack spot.frame).depth - suc i) (tree_of c body) u K.follow f h ≡ enter c
@@ -127,7 +129,7 @@ module _ (c : Ground) (ok : IsGround c) (q i : ℕ) (spot : Spot) (stack : List 
           f z) e
           ∙ ap (λ (z : Follow). paths c.setting ((around c stack spot.frame).depth - suc i) (tree_of c body) u z f
           (K.hand body))
-          (sym (after_nil c _ K) ∙ ap (after c _ K) (sym alone))
+          (sym (past_end c body alone.0 false (ap (settles_by c) alone.1) _ K))
 
       abbrev to : Spot
       to = record spot { left = spot.left - 1; units = spot.units + 1; frame = suc (length stack) }
@@ -191,7 +193,7 @@ module _ (c : Ground) (ok : IsGround c) (q i : ℕ) (spot : Spot) (stack : List 
         (hand c stack caps spot.frame q))
         (pause x) (hand c stack caps spot.frame q))) e
 
-    pub turn_begin_exits : b ≡ true → IsPart c body → c.rest body ≡ [] → c.branch body ≡ None → 0 < spot.left
+    pub turn_begin_exits : b ≡ true → IsPart c body → (c.rest body ≡ []) × (c.look_branch body ≡ None) → c.branch body ≡ None → 0 < spot.left
         → spot.units < c.setting.matching.frame_limit →
         Advances c (conf (Begin q i b) spot stack caps)
         (conf (Enter body) (record spot { left = spot.left - 1; units = spot.units + 1; frame = suc (length stack) })
@@ -217,7 +219,7 @@ module _ (c : Ground) (ok : IsGround c) (q i : ℕ) (spot : Spot) (stack : List 
           slots = v.slots;
         })
 
-    pub turn_begin_open : b ≡ false → IsPart c body → c.rest body ≡ [] → c.branch body ≡ None → 0 < spot.left
+    pub turn_begin_open : b ≡ false → IsPart c body → (c.rest body ≡ []) × (c.look_branch body ≡ None) → c.branch body ≡ None → 0 < spot.left
         → spot.units < c.setting.matching.frame_limit →
         Advances c (conf (Begin q i b) spot stack caps)
         (conf (Enter body) (record spot { left = spot.left - 1; units = spot.units + 1; frame = suc (length stack) })
@@ -247,7 +249,7 @@ pub turn_begin : (c : Ground) (ok : IsGround c) (q i : ℕ) (spot : Spot) (stack
     (body : ℕ) (low : ℕ) (high : Option ℕ) (lazily : Bool)
     (t : tree.repeat (tree_of c body) low high lazily ≡ tree_of c q) (b : Bool)
     (v : IsValid c (conf (Begin q i b) spot stack caps)) →
-    IsPart c body → c.rest body ≡ [] → c.branch body ≡ None → 0 < spot.left
+    IsPart c body → (c.rest body ≡ []) × (c.look_branch body ≡ None) → c.branch body ≡ None → 0 < spot.left
     → spot.units < c.setting.matching.frame_limit →
     Advances c (conf (Begin q i b) spot stack caps)
     (conf (Enter body) (record spot { left = spot.left - 1; units = spot.units + 1; frame = suc (length stack) })

@@ -7,8 +7,8 @@ ghost use Rattle.std.specs.Prelude.{◌≡◌, ◌<◌, ◌≤◌, ◌+◌, true
 ghost use Rattle.pat_tree.specs.declared.options.PartialMode.TheVariants.{Off};
 ghost use Rattle.match_items.specs.Items.{holds};
 ghost use Rattle.frame_state.specs.Steps.{over};
-ghost use Rattle.frame_state.specs.Ground.{next_of, tree_of, IsPart};
-ghost use Rattle.frame_state.specs.Machine.{towards};
+ghost use Rattle.frame_state.specs.Ground.{tree_of, IsPart};
+ghost use Rattle.frame_state.specs.Machine.{onward};
 ghost use Rattle.frame_state.specs.Validity.{IsMany, IsValid};
 ghost use Rattle.frame_state.specs.Stops.{IsFurther};
 ghost use Rattle.frame_parts.specs.Passing.{HasNumber, needed_classes, is_of_end, AreFar, PassesFar, IsMissing};
@@ -222,10 +222,13 @@ fn after_part<S: Searchable>(
     requires inside { IsPart (S.searched on.now) at }
     requires valid { IsValid (S.searched on.now) (over Next.End spot.now store.now registers.now) }
     ensures { MatchOption result (Unit {0})
-        (λ f. IsFollower (S.searched on.now) (towards (next_of (S.searched on.now) at))
+        (λ f. IsFollower (S.searched on.now) (onward (S.searched on.now) at)
         spot.now.frame store.now.records registers.now f.need f.units) }
 {
     let Some(next) = on.next(at) else {
+        if on.settles(at) {
+            return None;
+        }
         return after_group(on, spot, store, registers);
     };
     need_of(on, next)

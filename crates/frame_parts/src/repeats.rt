@@ -58,6 +58,7 @@ pub fn turns_of<S: Searchable>(on: &S, part: u32) -> Turns
     ensures body { IsPart (S.searched on.now) result.body }
     ensures alone { (S.searched on.now).rest result.body ≡ [] }
     ensures framed { (S.searched on.now).branch result.body ≡ None }
+    ensures unlooked { (S.searched on.now).look_branch result.body ≡ None }
 {
     match on.node(part) {
         Node::Repeat {

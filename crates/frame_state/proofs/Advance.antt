@@ -10,8 +10,8 @@ use Rattle.ordered_search.specs.Moves.{Moves, stops, pause, stepped, holding, tr
 use Rattle.frame_state.specs.declared.machine.Next.TheVariants.{Back, End}
 use Rattle.frame_state.specs.declared.machine.Met.{Met}
 use Rattle.frame_state.specs.declared.machine.Spot.{Spot}
-use Rattle.frame_state.specs.Ground.{Ground, next_of, IsGround, IsPart}
-use Rattle.frame_state.specs.Machine.{Conf, conf, towards}
+use Rattle.frame_state.specs.Ground.{Ground, IsGround, IsPart}
+use Rattle.frame_state.specs.Machine.{Conf, conf, onward}
 use Rattle.frame_state.specs.Stops.{Told, told, tells}
 use Rattle.frame_state.specs.Frames.{past, around, outside, fail, spot_state, ahead}
 use Rattle.frame_state.specs.Over.{GoesBy}
@@ -123,9 +123,9 @@ module _ (c : Ground) where
       pub goes_on : stays spot ≡ stays m.spot →
           ahead c m ≡ pause (past c (around c stack spot.frame).depth (outside c stack caps spot.frame) q reached
           (spot_state c spot stack caps) (fail c stack caps)) →
-          Advances c m (conf (towards (next_of c q)) spot stack caps)
+          Advances c m (conf (onward c q) spot stack caps)
       goes_on same e =
-          advance_pause m (conf (towards (next_of c q)) spot stack caps) _ e (focus_towards c ok q inside _ _ _ _) same
+          advance_pause m (conf (onward c q) spot stack caps) _ e (focus_towards c ok q inside _ _ _ _) same
           (record {
             running = running_towards c ok q inside spot stack later standing;
             records = records;
@@ -136,9 +136,9 @@ module _ (c : Ground) where
       pub goes_on_step : suc spot.left ≡ m.spot.left → spot.last ≡ m.spot.last →
           ahead c m ≡ stepped (past c (around c stack spot.frame).depth (outside c stack caps spot.frame) q reached
           (spot_state c spot stack caps) (fail c stack caps)) →
-          Advances c m (conf (towards (next_of c q)) spot stack caps)
+          Advances c m (conf (onward c q) spot stack caps)
       goes_on_step same met e =
-          advance_step m (conf (towards (next_of c q)) spot stack caps) _ e (focus_towards c ok q inside _ _ _ _) same
+          advance_step m (conf (onward c q) spot stack caps) _ e (focus_towards c ok q inside _ _ _ _) same
           met
           (record {
             running = running_towards c ok q inside spot stack later standing;

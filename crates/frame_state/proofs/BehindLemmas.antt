@@ -1,12 +1,12 @@
 -- The lengths of lookbehinds.
-use Rattle.std.proofs.Common.{◌≡◌, ℕ, zero, suc, ◌≤◌, true, List, [], ◌∷◌, ◌++◌, flat_map}
-use Rattle.std.proofs.Common.{drop, length, All, Some, None, sym, subst, arith, length-drop}
+use Rattle.std.proofs.Common.{◌≡◌, ◌∙◌, ℕ, zero, suc, ◌-◌, ◌<◌, ◌≤◌, true, List, [], ◌∷◌, ◌++◌, flat_map}
+use Rattle.std.proofs.Common.{drop, length, All, Some, None, refl, sym, ap, subst, arith, length-drop}
 use Rattle.std.proofs.lemmas.List.Elements.{All-nil, All-cons, All-head, All-tail, All-append}
 use Rattle.pat_tree.specs.declared.nodes.Node.{Node}
 use Rattle.pat_tree.specs.Nested.{Nested, nest, tree_at}
 use Rattle.pat_tree.specs.Rules.{kids_of, asserted_by, is_test}
 use Rattle.match_items.specs.Scene.{Scene}
-use Rattle.match_items.specs.Items.{places_back, previous}
+use Rattle.match_items.specs.Items.{places_back, previous, place_before}
 use Rattle.pat_lengths.specs.Nodes.{all_nodes}
 use Rattle.pat_lengths.proofs.OrderLemmas.{node_first, nodes_at}
 
@@ -21,6 +21,29 @@ one_place g (suc n) p =
       | None ↦ omega (arith, length-drop (suc n) (p ∷ []))
       | Some c ↦ one_place g n c.1
     ]
+
+-- the place itself is one of them
+pub some_back : (g : Scene) (n p : ℕ) → 0 < length (places_back g n p)
+unfolding places_back
+some_back g zero p = omega arith
+some_back g (suc n) p =
+    elim (previous g p)
+    as (λ o. 0 < length (let z : List ℕ = elim o [ None ↦ p ∷ [] | Some c ↦ p ∷ places_back g n c.1 ] in z)) [
+      | None ↦ omega arith
+      | Some c ↦ omega arith
+    ]
+
+-- they are those from as many back as stand before
+pub back_room : (g : Scene) (n p : ℕ) → places_back g n p ≡ places_back g (length (places_back g n p) - 1) p
+unfolding places_back
+back_room g zero p = refl
+back_room g (suc n) zero = refl
+back_room g (suc n) (suc p) =
+    let q : ℕ = place_before g (suc p) in
+    let some = some_back g n q in
+    let m : ℕ = length (places_back g n q) - 1 in
+    let less : suc (length (places_back g n q)) - 1 ≡ suc m = omega (arith, some) in
+    ap (λ ps. suc p ∷ ps) (back_room g n q) ∙ ap (λ k. places_back g k (suc p)) (sym less)
 
 -- What holds of all nodes of a tree, by the children.
 

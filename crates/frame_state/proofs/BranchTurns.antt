@@ -12,7 +12,7 @@ use Rattle.ordered_search.specs.PlaceAnswer.{answers, MatchLimit, FrameLimit}
 use Rattle.ordered_search.specs.Moves.{tread}
 use Rattle.frame_state.specs.declared.machine.Next.TheVariants.{Branch}
 use Rattle.frame_state.specs.declared.machine.Spot.{Spot}
-use Rattle.frame_state.specs.Begun.{is_behind, IsFixedPart, begun_place, begun_next, begun_spot}
+use Rattle.frame_state.specs.Begun.{Begun, is_behind, IsFixedPart, begun_place, begun_next, begun_spot}
 use Rattle.frame_state.specs.Branches.{AreBranches, IsBranched}
 use Rattle.frame_state.specs.Ground.{Ground, tree_of, IsNode, IsGround, IsPart}
 use Rattle.frame_state.specs.Machine.{kept_at, conf, row_length}
@@ -30,7 +30,7 @@ module _ (c : Ground) (ok : IsGround c) (q j : ℕ) (spot : Spot) (stack : List 
   pub branch_inside : j < length ks
   branch_inside =
       let h : j < row_length (row (map (tree_at c.trees) ks)) =
-      subst (λ r. j < row_length r) b.branched.rows v.running.2.0 in
+      subst (λ r. j < row_length r) b.branched.rows v.running.2.0.0 in
       omega (arith, h, length_row c ks)
 
   module _ (p : ℕ) (at : slice_get ks j ≡ Some p) where
@@ -52,7 +52,7 @@ module _ (c : Ground) (ok : IsGround c) (q j : ℕ) (spot : Spot) (stack : List 
     abbrev behind : Bool
     behind = is_behind (tree_of c q)
 
-    abbrev start : Option ℕ
+    abbrev start : Option Begun
     start = begun_place c p spot.place
 
     pub turn_last_branch : length ks ≤ suc j → 0 < spot.left →

@@ -19,8 +19,8 @@ use Rattle.frame_state.specs.declared.machine.Next.TheVariants.{Enter, Back}
 use Rattle.frame_state.specs.declared.machine.Spot.{Spot}
 use Rattle.frame_state.specs.declared.machine.Stop.{Stop}
 use Rattle.frame_state.specs.declared.machine.Stop.TheVariants as stop
-use Rattle.frame_state.specs.Ground.{Ground, next_of, IsNode, IsGround}
-use Rattle.frame_state.specs.Machine.{Conf, conf, mark_of, towards}
+use Rattle.frame_state.specs.Ground.{Ground, IsNode, IsGround}
+use Rattle.frame_state.specs.Machine.{Conf, conf, mark_of, onward}
 use Rattle.frame_state.specs.Frames.{past, around, outside, fail, spot_state, ahead}
 use Rattle.frame_state.specs.Shown.{callout_at, block_at, shown_as, seen_after, IsReplied, IsFollowed, IsCallStop}
 use Rattle.frame_state.specs.Stops.{Told, told, tells, told_at, IsStop, IsEnd, held_next}
@@ -151,7 +151,7 @@ module _ (c : Ground) (ok : IsGround c) (q : ℕ) (spot : Spot) (stack : List En
       s f in
       over_more c old new b spot _ _ (at_callout ∙ ap (λ z. pause (noted (shown b) z)) (followed (K reached s f) f))
       grows
-      (conf (towards (next_of c q)) spot stack caps) (sym (ap (tells c.setting spot) same))
+      (conf (onward c q) spot stack caps) (sym (ap (tells c.setting spot) same))
       (omega (arith, ap size same)) _ refl refl
       (record {
         running = running_towards c ok q v.running.0 spot stack v.running.2 v.running.1;

@@ -16,14 +16,14 @@ use Rattle.frame_store.specs.Undo.{taken_back, HasSlot, undone}
 use Rattle.ordered_search.specs.Stream.{State, VerbEnding, next_branch, prune, skip, commit, reached, accepted}
 use Rattle.ordered_search.specs.Moves.{Moves, pause, Follow, at_end, at_verbs, catching, Handler}
 use Rattle.frame_state.specs.declared.machine.Next.{Next}
-use Rattle.frame_state.specs.declared.machine.Next.TheVariants.{Enter, Branch, Offer, Begin, Fewer, More, End, Back}
-use Rattle.frame_state.specs.declared.machine.Next.TheVariants.{Accept, Act, Leave}
+use Rattle.frame_state.specs.declared.machine.Next.TheVariants.{Enter, Branch, Try, Offer, Begin, Fewer, More, End}
+use Rattle.frame_state.specs.declared.machine.Next.TheVariants.{Settle, Back, Accept, Act, Leave}
 use Rattle.frame_state.specs.declared.machine.Spot.{Spot}
 use Rattle.node_flow.specs.Followers.{first_of}
-use Rattle.frame_state.specs.Ground.{Ground, tree_of, next_of, BeginsBy, IsGround, IsPart}
-use Rattle.frame_state.specs.Machine.{Around, state_at, link_of, towards, entry_kept, ending_of, heard_by, heard}
-use Rattle.frame_state.specs.Machine.{Outside}
-use Rattle.frame_state.specs.Frames.{frame_around, after, past, branch_rest, branch_from, fewer_places, more_from}
+use Rattle.frame_state.specs.Ground.{Ground, tree_of, settles, BeginsBy, IsGround, IsPart}
+use Rattle.frame_state.specs.Machine.{Around, state_at, link_of, towards, onward, entry_kept, ending_of, heard_by, heard}
+use Rattle.frame_state.specs.Machine.{Outside, place_at}
+use Rattle.frame_state.specs.Frames.{frame_around, after, settle, settled, past, beyond_by, beyond, branch_from, try_from, fewer_places, more_from}
 use Rattle.frame_state.specs.Frames.{offer_from, begin_from, close_from, turned_from, chosen_from, around, around_at}
 use Rattle.frame_state.specs.Frames.{frame_end, is_catching, is_catching_then, frame_hand, began, hand, cont, caught}
 use Rattle.frame_state.specs.Frames.{fail, fail_to, outside, focus, Agrees, parts_of}
@@ -31,17 +31,38 @@ use Rattle.frame_state.specs.Validity.{IsContained, IsLater, IsStanding, SpanSta
 use Rattle.frame_state.specs.Validity.{IsRunning}
 use Rattle.frame_state.proofs.KidParts.{next_part, next_rank}
 use Rattle.ordered_search.specs.Parts.{back_to}
-use Rattle.ordered_search.specs.Paths.{leave, returned, offer_paths, paths}
+use Rattle.ordered_search.specs.Paths.{leave, returned, ends_before, offer_paths, paths}
 use Rattle.pat_tree.specs.Nested as tree
 use Rattle.pat_tree.specs.Nested.{Nested}
 use Rattle.ordered_search.proofs.Same.{follow_same}
-use Rattle.frame_state.proofs.PartPaths.{after_nil, after_cons}
+use Rattle.frame_state.proofs.PartPaths.{after_nil, after_cons, settles_same}
 use Rattle.frame_state.proofs.Splits.{split, up_to_below, up_to_base, past_above, past_base}
 
 -- none of these records is the frame's own at a height
 abbrev pub IsFresh : ℕ → List Entry → Type 0
 IsFresh l [] = Unit {0}
 IsFresh l (r ∷ rest) = (link_of r ≢ l) × IsFresh l rest
+
+-- where a frame began
+
+pub place_here : (r : Entry) (below : List Entry) (l : ℕ) → l ≡ suc (length below)
+    → place_at (r ∷ below) l ≡ (entry_kept r).place
+unfolding place_at
+place_here r below l e = cond-true _ _ _ (eq-eqb _ _ e)
+
+place_below : (r : Entry) (below : List Entry) (l : ℕ) → (l ≡ suc (length below) → ⊥)
+    → place_at (r ∷ below) l ≡ place_at below l
+unfolding place_at
+place_below r below l n = cond-false _ _ _ (ne_eqb _ _ n)
+
+pub place_push : (r : Entry) (below : List Entry) (l : ℕ) → l ≤ length below
+    → place_at (r ∷ below) l ≡ place_at below l
+place_push r below l h = place_below r below l (λ e. omega (arith, e, h))
+
+place_deep : (above base : List Entry) (l : ℕ) → l ≤ length base → place_at (above ++ base) l ≡ place_at base l
+place_deep [] base l h = refl
+place_deep (p ∷ above) base l h = place_push p (above ++ base) l (omega (arith, h, length-append above base))
+    ∙ place_deep above base l h
 
 module _ (c : Ground) where
   pub around_here : (r : Entry) (below : List Entry) (l : ℕ) → l ≡ suc (length below)
@@ -370,19 +391,27 @@ module _ (c : Ground) where
             refl
       ])
 
-  abbrev pub around_with : Follow → (ℕ → Handler) → Outside
-  around_with k h = record { follow = k; hand = h }
+  abbrev pub around_with : Follow → ℕ → (ℕ → Handler) → Outside
+  around_with k place h = record { follow = k; place = place; hand = h }
 
   -- What is around two paths agrees.
 
   pub agrees_same : (q : ℕ) (k : Outside) → Agrees c q k k
-  agrees_same q k = record { follow = refl; hand = λ p by. refl }
+  agrees_same q k = record { follow = refl; place = refl; hand = λ p by. refl }
 
   pub agrees_over : (q : ℕ) (k l m : Outside) → Agrees c q k l → Agrees c q l m → Agrees c q k m
-  agrees_over q k l m a b = record { follow = a.follow ∙ b.follow; hand = λ p by. a.hand p by ∙ b.hand p by }
+  agrees_over q k l m a b = record {
+    follow = a.follow ∙ b.follow;
+    place = a.place ∙ b.place;
+    hand = λ p by. a.hand p by ∙ b.hand p by;
+  }
 
   pub agrees_back : (q : ℕ) (k l : Outside) → Agrees c q k l → Agrees c q l k
-  agrees_back q k l a = record { follow = sym a.follow; hand = λ p by. sym (a.hand p by) }
+  agrees_back q k l a = record {
+    follow = sym a.follow;
+    place = sym a.place;
+    hand = λ p by. sym (a.hand p by);
+  }
 
   later_begins : (q to p : ℕ) → c.rank q ≤ c.rank to → BeginsBy c q p → BeginsBy c to p
   later_begins q to p le by =
@@ -393,12 +422,17 @@ module _ (c : Ground) where
       ]) by
 
   pub agrees_earlier : (q to : ℕ) (k l : Outside) → c.rank q ≤ c.rank to → Agrees c to k l → Agrees c q k l
-  agrees_earlier q to k l le a = record { follow = a.follow; hand = λ p by. a.hand p (later_begins q to p le by) }
+  agrees_earlier q to k l le a = record {
+    follow = a.follow;
+    place = a.place;
+    hand = λ p by. a.hand p (later_begins q to p le by);
+  }
 
   pub outside_push : (r : Entry) (below : List Entry) (caps : Captures) (l : ℕ) → l ≤ length below → link_of r ≡ l →
       Agrees c (entry_site r).node (outside c (r ∷ below) caps l) (outside c below (taken_back r caps) l)
   outside_push r below caps l le at = record {
     follow = cont_push r below caps l le;
+    place = place_push r below l le;
     hand = λ p by. hand_push r below caps l p le at by;
   }
 
@@ -425,17 +459,23 @@ module _ (c : Ground) where
       let same : k.hand p ≡ l.hand p = a.hand p (All-head (BeginsBy c q) p ps by) in
       after_both d k l p ps later same a.follow
 
-  pub rest_all : (P : ℕ → Type 0) (t : Nested) (qs : List ℕ) → All P qs → All P (branch_rest c t qs)
-  rest_all P (tree.group None ts) qs a = a
-  rest_all P (tree.group (Some n) ts) qs a = All-nil P
-  rest_all P _ qs a = All-nil P
-
   module _ (q d : ℕ) (k l : Outside) (a : Agrees c q k l) (s : State) (f : Moves) where
     hand_agrees : (p : ℕ) (ps : List ℕ) → All (BeginsBy c q) (p ∷ ps) → k.hand p ≡ l.hand p
     hand_agrees p ps by = a.hand p (All-head (BeginsBy c q) p ps by)
 
+    settle_agrees : (b : Bool) → settle c b k.place k.follow ≡ settle c b l.place l.follow
+    settle_agrees b = ap (λ x. settle c b x k.follow) a.place ∙ ap (settle c b l.place) a.follow
+
+    settled_agrees : (p : ℕ) → Agrees c q (settled c k p) (settled c l p)
+    settled_agrees p = record { follow = settle_agrees (settles c p); place = a.place; hand = a.hand }
+
     past_agrees : (p : ℕ) → All (BeginsBy c q) (p ∷ c.rest p) → past c d k p ≡ past c d l p
-    past_agrees p by = after_agrees q d k l (c.rest p) a (All-tail (BeginsBy c q) p (c.rest p) by)
+    past_agrees p by = after_agrees q d (settled c k p) (settled c l p) (c.rest p) (settled_agrees p)
+        (All-tail (BeginsBy c q) p (c.rest p) by)
+
+    pub beyond_agrees : (t : Nested) (p : ℕ) → All (BeginsBy c q) (p ∷ c.rest p) → beyond_by c t d k p ≡ beyond_by c t d l p
+    beyond_agrees (tree.group None ts) p by = past_agrees p by
+    beyond_agrees _ p by = a.follow
 
     pub focus_agrees : (next : Next) → All (BeginsBy c q) (parts_of c next)
         → focus c next d k s f ≡ focus c next d l s f
@@ -443,12 +483,11 @@ module _ (c : Ground) where
         ap (λ (z : Follow). paths c.setting d (tree_of c p) s z f (k.hand p)) (past_agrees p by)
         ∙ ap (λ (h : Handler). paths c.setting d (tree_of c p) s (past c d l p) f h) (hand_agrees p (c.rest p) by)
     focus_agrees (Branch p i) by =
-        let rest : All (BeginsBy c q) (branch_rest c (tree_of c p) (c.rest p)) =
-        rest_all (BeginsBy c q) (tree_of c p) (c.rest p) (All-tail (BeginsBy c q) p (c.rest p) by) in
-        ap (λ (z : Follow). branch_from c (tree_of c p) i d s z f (k.hand p))
-        (after_agrees q d k l (branch_rest c (tree_of c p) (c.rest p)) a rest)
-        ∙ ap (λ (h : Handler). branch_from c (tree_of c p) i d s
-        (after c d l (branch_rest c (tree_of c p) (c.rest p))) f h) (hand_agrees p (c.rest p) by)
+        ap (λ (z : Follow). branch_from c (tree_of c p) i d s z f (k.hand p)) (beyond_agrees (tree_of c p) p by)
+        ∙ ap (λ (h : Handler). branch_from c (tree_of c p) i d s (beyond c d l p) f h) (hand_agrees p (c.rest p) by)
+    focus_agrees (Try p n) by =
+        ap (λ (z : Follow). try_from c p n d s z f (k.hand p)) a.follow
+        ∙ ap (λ (h : Handler). try_from c p n d s l.follow f h) (hand_agrees p [] by)
     focus_agrees (Offer p i) by =
         ap (λ (z : Follow). offer_from c (tree_of c p) i d s z f (k.hand p)) (past_agrees p by)
         ∙ ap (λ (h : Handler). offer_from c (tree_of c p) i d s (past c d l p) f h) (hand_agrees p (c.rest p) by)
@@ -462,6 +501,9 @@ module _ (c : Ground) where
     focus_agrees (More p count last) by = ap (λ (z : Follow). more_from c (tree_of c p) count last s z f)
         (past_agrees p by)
     focus_agrees End by = ap (λ (z : Follow). z reached s f) a.follow
+    focus_agrees Settle by =
+        ap (λ x. ends_before x k.follow reached s f) a.place
+        ∙ ap (λ (z : Follow). ends_before l.place z reached s f) a.follow
     focus_agrees Back by = refl
     focus_agrees Accept by = ap (λ (z : Follow). z accepted s f) a.follow
     focus_agrees (Act x) by = ap (λ (h : Handler). pause (h (ending_of x))) (hand_agrees 0 [] by)
@@ -516,7 +558,7 @@ module _ (c : Ground) where
   inside_of r stack caps =
       around_with (frame_end c r (around_at c stack (link_of r) (entry_kept r).passed)
       (outside c stack (taken_back r caps) (link_of r)) (taken_back r caps) (fail c stack (taken_back r caps)))
-      (hand c (r ∷ stack) caps (suc (length stack)))
+      (entry_kept r).place (hand c (r ∷ stack) caps (suc (length stack)))
 
   -- fewer Steps left
   standing_less : (left less frame d : ℕ) (kept : Kept) (stack : List Entry) → less ≤ left
@@ -603,8 +645,12 @@ module _ (c : Ground) where
         (state_at (record (frame_around r (around c stack (link_of r))) { passed = names }) kept now) f)
         (heard_push r stack h low)
         ∙ ap (λ (k : Follow). focus c next (frame_around r (around c stack (link_of r))).depth
-        (around_with k (hand c (r ∷ stack) caps (suc (length stack)))) (state_at (path_in h) kept now) f)
+        (around_with k (place_at (r ∷ stack) (suc (length stack))) (hand c (r ∷ stack) caps (suc (length stack))))
+        (state_at (path_in h) kept now) f)
         (cont_here r stack caps _ refl)
+        ∙ ap (λ x. focus c next (frame_around r (around c stack (link_of r))).depth
+        (around_with (inside_of r stack caps).follow x (hand c (r ∷ stack) caps (suc (length stack))))
+        (state_at (path_in h) kept now) f) (place_here r stack _ refl)
 
 module _ (c : Ground) where
   around_deep : (above base : List Entry) (l : ℕ) → l ≤ length base → around c (above ++ base) l ≡ around c base l
@@ -673,6 +719,7 @@ module _ (c : Ground) where
       let lowest : l ≤ length (r ∷ below) = omega (arith, low) in
       record {
         follow = cont_deep above (r ∷ below) caps l lowest ∙ cont_push c r below inner l low;
+        place = place_deep above (r ∷ below) l lowest ∙ place_push r below l low;
         hand = λ p by.
             hand_is c stack below caps (taken_back r inner) l p (caught_deep above (r ∷ below) caps l lowest
             ∙ caught_push c r below inner l low)
@@ -887,37 +934,65 @@ module _ (c : Ground) where
 
   -- where the machine goes on after a part
   module _ (ok : IsGround c) (q : ℕ) (inside : IsPart c q) where
-    focus_first : (d : ℕ) (k : Outside) (qs : List ℕ) (s : State) (f : Moves) → c.rest q ≡ qs
-        → focus c (towards (first_of qs)) d k s f ≡ after c d k qs reached s f
-    focus_first d k [] s f e = ap (λ (z : Follow). z reached s f) (sym (after_nil c d k))
-    focus_first d k (p ∷ ps) s f e =
-        sym (after_cons c d k p (c.rest p) s f) ∙ ap (λ (r : List ℕ). after c d k (p ∷ r) reached s f)
-        (ok.chained q p ps inside.within e)
+    focus_end : (b : Bool) (d : ℕ) (k : Outside) (s : State) (f : Moves)
+        → focus c (towards None b) d k s f ≡ settle c b k.place k.follow reached s f
+    focus_end true d k s f = refl
+    focus_end false d k s f = refl
+
+    -- the part that follows settles as it does
+    settled_next : (k : Outside) (p : ℕ) (ps : List ℕ) → c.rest q ≡ p ∷ ps → settled c k p ≡ settled c k q
+    settled_next k p ps e =
+        let same : c.look_branch p ≡ c.look_branch q =
+        All-head (λ x. c.look_branch x ≡ c.look_branch q) p ps
+        (subst (All (λ x. c.look_branch x ≡ c.look_branch q)) e inside.looked_on) in
+        ap (λ b. record k { follow = settle c b k.place k.follow }) (settles_same c p q same)
+
+    focus_first : (b : Bool) (d : ℕ) (k : Outside) (qs : List ℕ) (s : State) (f : Moves) → c.rest q ≡ qs
+        → settles c q ≡ b → focus c (towards (first_of qs) b) d k s f ≡ after c d (settled c k q) qs reached s f
+    focus_first b d k [] s f e is =
+        focus_end b d k s f
+        ∙ ap (λ x. settle c x k.place k.follow reached s f) (sym is)
+        ∙ ap (λ (z : Follow). z reached s f) (sym (after_nil c d (settled c k q)))
+    focus_first b d k (p ∷ ps) s f e is =
+        ap (λ (o : Outside). paths c.setting d (tree_of c p) s (after c d o (c.rest p)) f (k.hand p))
+        (settled_next k p ps e)
+        ∙ sym (after_cons c d (settled c k q) p (c.rest p) s f)
+        ∙ ap (λ (r : List ℕ). after c d (settled c k q) (p ∷ r) reached s f) (ok.chained q p ps inside.within e)
 
     pub focus_towards : (d : ℕ) (k : Outside) (s : State) (f : Moves)
-        → focus c (towards (next_of c q)) d k s f ≡ past c d k q reached s f
-    focus_towards d k s f = focus_first d k (c.rest q) s f refl
+        → focus c (onward c q) d k s f ≡ past c d k q reached s f
+    focus_towards d k s f = focus_first (settles c q) d k (c.rest q) s f refl refl
 
-    running_first : (spot : Spot) (stack : List Entry) (o : List ℕ) → c.rest q ≡ o → IsLater c spot.frame q stack
-        → IsRunning c spot stack End → IsRunning c spot stack (towards (first_of o))
-    running_first spot stack [] e later r = r
-    running_first spot stack (p ∷ ps) e later r =
+    running_end : (b : Bool) (spot : Spot) (stack : List Entry) → IsRunning c spot stack End
+        → IsRunning c spot stack (towards None b)
+    running_end true spot stack r = r
+    running_end false spot stack r = r
+
+    running_first : (b : Bool) (spot : Spot) (stack : List Entry) (o : List ℕ) → c.rest q ≡ o
+        → IsLater c spot.frame q stack
+        → IsRunning c spot stack End → IsRunning c spot stack (towards (first_of o) b)
+    running_first b spot stack [] e later r = running_end b spot stack r
+    running_first b spot stack (p ∷ ps) e later r =
         (next_part c ok q p ps inside e, r, later_more spot.frame q p stack (next_rank c ok q p ps inside e) later)
 
     -- its own records and those before it stand before what follows
     pub running_towards : (spot : Spot) (stack : List Entry) → IsLater c spot.frame q stack
-        → IsRunning c spot stack End → IsRunning c spot stack (towards (next_of c q))
-    running_towards spot stack later r = running_first spot stack (c.rest q) refl later r
+        → IsRunning c spot stack End → IsRunning c spot stack (onward c q)
+    running_towards spot stack later r = running_first (settles c q) spot stack (c.rest q) refl later r
 
-    begun_first : (o : List ℕ) → c.rest q ≡ o → All (BeginsBy c q) (parts_of c (towards (first_of o)))
-    begun_first [] e = All-nil (BeginsBy c q)
-    begun_first (p ∷ ps) e =
+    begun_end : (b : Bool) → All (BeginsBy c q) (parts_of c (towards None b))
+    begun_end true = All-nil (BeginsBy c q)
+    begun_end false = All-nil (BeginsBy c q)
+
+    begun_first : (b : Bool) (o : List ℕ) → c.rest q ≡ o → All (BeginsBy c q) (parts_of c (towards (first_of o) b))
+    begun_first b [] e = begun_end b
+    begun_first b (p ∷ ps) e =
         let all : All (BeginsBy c q) (p ∷ ps) = subst (All (BeginsBy c q)) e
         (All-tail (BeginsBy c q) q (c.rest q) inside.begun) in
         subst (λ xs. All (BeginsBy c q) (p ∷ xs)) (sym (ok.chained q p ps inside.within e)) all
 
-    pub begun_towards : All (BeginsBy c q) (parts_of c (towards (next_of c q)))
-    begun_towards = begun_first (c.rest q) refl
+    pub begun_towards : All (BeginsBy c q) (parts_of c (onward c q))
+    begun_towards = begun_first (settles c q) (c.rest q) refl
 
   -- what a sound record gives back
   pub slot_sound : (left : ℕ) (caps : Captures) (below : List Entry) (r : Entry)

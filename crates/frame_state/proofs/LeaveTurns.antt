@@ -14,8 +14,8 @@ use Rattle.ordered_search.specs.Moves.{Moves, pause, Follow, holding, tread}
 use Rattle.ordered_search.specs.Paths.{leave}
 use Rattle.frame_state.specs.declared.machine.Next.TheVariants.{Back, End}
 use Rattle.frame_state.specs.declared.machine.Spot.{Spot}
-use Rattle.frame_state.specs.Ground.{Ground, next_of, BeginsBy, IsGround, IsPart}
-use Rattle.frame_state.specs.Machine.{Around, Outside, state_at, kept_at, link_of, entry_kept, conf, towards}
+use Rattle.frame_state.specs.Ground.{Ground, BeginsBy, IsGround, IsPart}
+use Rattle.frame_state.specs.Machine.{Around, Outside, state_at, kept_at, link_of, entry_kept, conf, onward}
 use Rattle.frame_state.specs.Frames.{frame_around, past, around, around_at, frame_end, cont, fail, outside}
 use Rattle.frame_state.specs.Frames.{spot_state, ahead, focus, parts_of}
 use Rattle.frame_state.specs.Validity.{IsContained, IsLater, IsStanding, IsSound, IsValid, Advances, IsRunning}
@@ -201,11 +201,11 @@ module _ (c : Ground) (ok : IsGround c) (spot : Spot) (records : List Record) (c
         reached (state_at b (kept_at to) caps) (past c a.depth k site.node) out) →
         spot.units < c.setting.matching.frame_limit →
         Advances c (conf End spot (entries records) caps)
-        (conf (towards (next_of c site.node)) (record to { units = spot.units + 1 })
+        (conf (onward c site.node) (record to { units = spot.units + 1 })
         (AtomicLeft (record { node = site.node; link = site.link }) (kept_at (record spot { frame = site.link }))
         h ∷ entries records) caps)
     turn_left ends room =
-        turn_leave (λ a k. past c a.depth k site.node) ends (towards (next_of c site.node))
+        turn_leave (λ a k. past c a.depth k site.node) ends (onward c site.node)
         (λ s m. focus_towards c ok site.node frame_inside _ _ s m) (running_towards c ok site.node frame_inside)
         (begun_towards c ok site.node frame_inside) room
 
@@ -214,7 +214,7 @@ module _ (c : Ground) (ok : IsGround c) (spot : Spot) (records : List Record) (c
         frame_end c r a k x out reached (state_at b (kept_at spot) caps) f ≡ pause
         (past c a.depth k site.node reached (state_at b (kept_at through) caps) f)) →
         Advances c (conf End spot (entries records) caps)
-        (conf (towards (next_of c site.node)) through (entries records) caps)
+        (conf (onward c site.node) through (entries records) caps)
     turn_through ends =
         let ended : State = state_at (outer spot.passed) (kept_at spot) caps in
         let f : Moves = fail c (entries records) caps in

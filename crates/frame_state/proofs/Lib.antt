@@ -14,3 +14,6 @@ pub mod CallFrames
 pub mod HeldStops
 pub mod MostOf
 pub mod BranchTurns
+pub mod BackPlaces
+pub mod TryTurns
+pub mod BeginLemmas

@@ -1,11 +1,12 @@
 -- A part, by its node: what it stands for with what follows.
 use Rattle.std.proofs.Common.{◌≡◌, ℕ, zero, suc, ◌-◌, ◌<◌, ◌≤◌, ◌∙◌, Bool, true, false, List, [], ◌∷◌, ◌++◌, map}
 use Rattle.std.proofs.Common.{drop, reverse, length, All, Option, Some, None, slice_get, if◌then◌else◌, refl, sym}
-use Rattle.std.proofs.Common.{ap, subst, arith, not}
-use Rattle.std.proofs.lemmas.List.{drop-map}
+use Rattle.std.proofs.Common.{ap, subst, arith, not, inl, inr, option_map}
+use Rattle.std.specs.Prelude.{◌==◌, nat_lt}
+use Rattle.std.proofs.lemmas.List.{drop-map, drop_all}
 use Rattle.std.proofs.Math.ListN.{drop_of_length-le}
 use Rattle.std.proofs.lemmas.List.Elements.{All-nil, All-cons, All-head, All-tail}
-use Rattle.std.proofs.lemmas.Bool.{false≢true, eq-eqb, ne_eqb}
+use Rattle.std.proofs.lemmas.Bool.{false≢true, ne_eqb, eqb-true, ltb-true, cases_Bool}
 use Rattle.pat_tree.specs.declared.nodes.Item.{Item}
 use Rattle.pat_tree.specs.declared.nodes.AnchorKind.{AnchorKind}
 use Rattle.pat_tree.specs.declared.nodes.Node.{Node}
@@ -28,26 +29,31 @@ use Rattle.ordered_search.specs.Moves.{reaching}
 use Rattle.ordered_search.specs.Paths.{close, ref_path, many_paths, turn_path, repeat_path, go_path, parts_path}
 use Rattle.ordered_search.specs.Paths.{choice_paths, branch_paths, leave, Many, only_many, possessive_path}
 use Rattle.ordered_search.specs.Paths.{atomic_over, look_path, path, row_paths, behind_paths, try_path, tries_path}
-use Rattle.ordered_search.specs.Paths.{behind_path, paths, choose_path, other_path, test_path, assert_path}
+use Rattle.ordered_search.specs.Paths.{ends_before, behind_path, paths, choose_path, other_path, test_path, assert_path}
 use Rattle.ordered_search.specs.Paths.{tested_path, answered, call_path, verb_path}
 use Rattle.frame_state.specs.declared.machine.Next.TheVariants.{Branch, Offer, Begin}
 use Rattle.node_flow.specs.Followers.{first_of}
 use Rattle.node_flow.specs.Branches.{branch_if, branch_child}
+use Rattle.node_flow.specs.LookBranches.{look_branch_child}
 use Rattle.node_flow.specs.Linked.{AreChained, AllFollowed, IsLinked}
-use Rattle.frame_state.specs.Branches.{IsBranched}
+use Rattle.frame_state.specs.Branches.{IsBranched, branch_look}
 use Rattle.frame_state.specs.Shown.{callout_at}
-use Rattle.pat_lengths.specs.Lengths.{SomeLengths, branch_fault}
-use Rattle.frame_state.specs.Behind.{AreFixed, HasFixed}
-use Rattle.frame_state.specs.Begun.{is_behind, IsFixedPart, begun_by, begun_place, begun_next, first_begun}
+use Rattle.pat_lengths.specs.Backs.{lengths_back}
+use Rattle.pat_lengths.specs.declared.backs.Back.{Back}
+use Rattle.frame_state.specs.Behind.{HasFixed}
+use Rattle.frame_state.specs.Begun.{Begun, placed, tried, is_behind, IsFixedPart, begun_within, begun_by, begun_place}
+use Rattle.frame_state.specs.Begun.{begun_next, first_begun}
 use Rattle.frame_state.specs.Reach.{referred_reaches}
-use Rattle.frame_state.specs.Ground.{Ground, tree_of, IsNode, IsMeasuredIn, IsPart, IsGround}
-use Rattle.pat_lengths.proofs.BackLemmas.{one_length}
-use Rattle.frame_state.proofs.BehindLemmas.{one_place, all_here}
+use Rattle.frame_state.specs.Ground.{Ground, tree_of, differ, settles_by, settles, IsNode, IsMeasuredIn, IsPart}
+use Rattle.frame_state.specs.Ground.{IsGround}
+use Rattle.pat_lengths.proofs.BackLemmas.{limited}
+use Rattle.frame_state.proofs.BehindLemmas.{one_place, some_back, back_room, all_here}
 use Rattle.frame_state.specs.Machine.{less, in_row, first_set, first_next, Outside}
-use Rattle.frame_state.specs.Frames.{after, past, enter, branch_rest, branch_from, offer_from, begin_from}
+use Rattle.frame_state.specs.Frames.{after, settle, settled, past, enter, branch_rest, beyond_by, beyond, branch_from}
+use Rattle.frame_state.specs.Frames.{tries_from, offer_from, begin_from}
 use Rattle.frame_state.specs.Frames.{turned_from, close_from, focus, branch_row, branch_path, other_from}
 use Rattle.frame_state.specs.Frames.{chosen_from}
-use Rattle.frame_state.proofs.KidParts.{kid_ranks}
+use Rattle.frame_state.proofs.KidParts.{fixed_row, kid_ranks}
 use Rattle.ordered_search.proofs.Same.{follow_same, holding_same}
 use Rattle.ordered_search.specs.Parts.{begun_at, some_set, is_called, is_called_of, block_of}
 
@@ -76,11 +82,41 @@ module _ (c : Ground) where
   unfolding after
   after_cons d k q qs s f = refl
 
+  -- where a try of a lookbehind's branch may end
+
+  pub settles_same : (p q : ℕ) → c.look_branch p ≡ c.look_branch q → settles c p ≡ settles c q
+  settles_same p q e = ap (settles_by c) e
+
+  settle_accepted : (b : Bool) (place : ℕ) (k : Follow) (s : State) (f : Moves)
+      → settle c b place k accepted s f ≡ k accepted s f
+  unfolding ends_before
+  settle_accepted true place k s f = refl
+  settle_accepted false place k s f = refl
+
+  pub past_same : (p q : ℕ) → c.rest p ≡ c.rest q → c.look_branch p ≡ c.look_branch q → (d : ℕ) (k : Outside)
+      → past c d k p ≡ past c d k q
+  past_same p q rest looked d k =
+      ap (after c d (settled c k p)) rest
+      ∙ ap (λ b. after c d (record k { follow = settle c b k.place k.follow }) (c.rest q)) (settles_same p q looked)
+
+  -- a part that ends its frame
+  pub past_end : (p : ℕ) → c.rest p ≡ [] → (b : Bool) → settles c p ≡ b → (d : ℕ) (k : Outside)
+      → past c d k p ≡ settle c b k.place k.follow
+  past_end p alone b is d k =
+      ap (after c d (settled c k p)) alone
+      ∙ after_nil d (settled c k p)
+      ∙ ap (λ x. settle c x k.place k.follow) is
+
   pub after_accepted : (d : ℕ) (k : Outside) (qs : List ℕ) (s : State) (f : Moves)
       → after c d k qs accepted s f ≡ k.follow accepted s f
   unfolding after
   after_accepted d k [] s f = refl
   after_accepted d k (q ∷ qs) s f = refl
+
+  pub past_accepted : (d : ℕ) (k : Outside) (q : ℕ) (s : State) (f : Moves)
+      → past c d k q accepted s f ≡ k.follow accepted s f
+  past_accepted d k q s f = after_accepted d (settled c k q) (c.rest q) s f
+      ∙ settle_accepted (settles c q) k.place k.follow s f
 
   -- what verbs lead to is the same at each of these parts as at q
   abbrev pub Alike : Outside → ℕ → List ℕ → Type 0
@@ -145,11 +181,18 @@ module _ (c : Ground) where
     enter_seq p ps a e =
         let l : AreChained c.rest (p ∷ ps) (c.rest q) = subst (IsLinked c.rest (c.rest q)) e i.linked in
         let K : Follow = past c d k q in
+        let looked : All (λ x. c.look_branch x ≡ c.look_branch q) (p ∷ ps) =
+        subst (λ m. All (λ x. c.look_branch x ≡ look_branch_child m (c.look_branch q) x) (kids_of m)) e i.looked in
+        let first : c.look_branch p ≡ c.look_branch q =
+        All-head (λ x. c.look_branch x ≡ c.look_branch q) p ps looked in
         enter_node
         ∙ ap (λ m. path c.setting z (paths c.setting z) (nest c.trees m) s K f (k.hand q)) e
         ∙ ap (λ (xs : List Path). pause (parts_path xs s K f (k.hand q))) (row_deep d z (p ∷ ps) deep)
         ∙ ap (λ (z : Follow). pause (paths c.setting d (tree_of c p) s z f (k.hand q)))
-        (parts_after d k q ps (c.rest q) (All-tail (λ x. k.hand x ≡ k.hand q) p ps a) ∙ ap (after c d k) (sym l.0))
+        (parts_after d (settled c k q) q ps (c.rest q) (All-tail (λ x. k.hand x ≡ k.hand q) p ps a)
+        ∙ ap (after c d (settled c k q)) (sym l.0)
+        ∙ ap (λ b. after c d (record k { follow = settle c b k.place k.follow }) (c.rest p))
+        (sym (settles_same p q first)))
         ∙ ap (λ (z : Handler). pause (paths c.setting d (tree_of c p) s (past c d k p) f z))
         (sym (All-head (λ x. k.hand x ≡ k.hand q) p ps a))
 
@@ -205,71 +248,128 @@ module _ (c : Ground) where
 
   -- Where a branch begins.
 
-  -- where it begins, if it is of a lookbehind
-  abbrev pub begun_path : Bool → Option ℕ → Path → Path
-  begun_path false to p s k f h = p s k f h
-  begun_path true None p s k f h = f
-  begun_path true (Some place) p s k f h = p (begun_at place s) k f h
-
-  try_begun : (p : Path) (s : State) (k : Follow) (f : Moves) (h : Handler) (places : List ℕ) → length places ≤ 1 →
-      begun_path true (first_of places) p s k f h ≡ try_path (reverse places) p s k f h
-  unfolding try_path
-  try_begun p s k f h [] le = refl
-  try_begun p s k f h (x ∷ []) le = refl
-  try_begun p s k f h (x ∷ y ∷ more) le = absurd (omega (arith, le))
-
-  -- of one length, it begins so far before the place
-  behind_begun : (a : SomeLengths) → branch_fault a ≡ None
-      → (p : Path) (s : State) (k : Follow) (f : Moves) (h : Handler) →
-      begun_path true (begun_by c a s.place) p s k f h ≡ behind_path c.setting a p s k f h
-  unfolding behind_path
-  behind_begun a e p s k f h =
-      let one = one_length a e in
-      let n : ℕ = one.0 in
-      let before : List ℕ = drop n (places_back c.setting.scene n s.place) in
-      subst (λ (x : SomeLengths). begun_path true (begun_by c x s.place) p s k f h ≡ behind_path c.setting x p s k f
-      h) (sym one.1)
-      (try_begun p s k f h before (one_place c.setting.scene n s.place)
-      ∙ ap (λ (b : Bool). elim b [
-        | true ↦ try_path (reverse before) p s k f h
-        | false ↦
-            tries_path c.setting (reverse before) p s k f h
-      ]) (sym (eq-eqb n n refl)))
-
-  begun_kid : (t : Nested) (p : ℕ) → (is_behind t ≡ true → IsFixedPart c p)
-      → (d : ℕ) (s : State) (k : Follow) (f : Moves) (h : Handler) →
-      begun_path (is_behind t) (begun_place c p s.place) (paths c.setting d (tree_of c p)) s k f h ≡ branch_path c t d
-      (tree_of c p) s k f h
-  begun_kid (tree.look false positive once ts) p fixed d s k f h =
-      behind_begun (branch_lengths c.setting (tree_of c p)) (fixed refl) (paths c.setting d (tree_of c p)) s k f h
-  begun_kid (tree.look true positive once ts) p fixed d s k f h = refl
-  begun_kid _ p fixed d s k f h = refl
-
-  abbrev pub begun_state : Bool → Option ℕ → State → State
+  abbrev pub begun_state : Bool → Option Begun → State → State
   begun_state false to s = s
   begun_state true None s = s
-  begun_state true (Some place) s = begun_at place s
+  begun_state true (Some (placed place)) s = begun_at place s
+  begun_state true (Some (tried n)) s = s
 
-  begun_focus : (b : Bool) (to : Option ℕ) (p d : ℕ) (k : Outside) (s : State) (f : Moves) →
-      focus c (begun_next b to p) d k (begun_state b to s) f ≡ begun_path b to (paths c.setting d (tree_of c p)) s
-      (after c d k (c.rest p)) f (k.hand p)
-  begun_focus false to p d k s f = refl
-  begun_focus true None p d k s f = refl
-  begun_focus true (Some place) p d k s f = refl
+  -- what follows a branch that begins where it is entered
+  beyond_is : (t : Nested) (p q : ℕ) → is_behind t ≡ false → c.rest p ≡ branch_rest c t (c.rest q)
+      → c.look_branch p ≡ branch_look t (c.look_branch q) p → (d : ℕ) (k : Outside)
+      → past c d k p ≡ beyond_by c t d k q
+  beyond_is (tree.group None ts) p q plain linked looked d k = past_same p q linked looked d k
+  beyond_is (tree.look false positive once ts) p q plain linked looked d k = absurd (false≢true (sym plain))
+  beyond_is _ p q plain linked looked d k = past_end p linked false (ap (settles_by c) looked) d k
+
+  -- a branch of a lookbehind
+  module _ (p d : ℕ) (k : Outside) (s : State) (f : Moves) (alone : c.rest p ≡ [])
+      (own : c.look_branch p ≡ Some p) (back : Back)
+      (lengths : branch_lengths c.setting (tree_of c p) ≡ lengths_back back) where
+    abbrev P : Path
+    P = paths c.setting d (tree_of c p)
+
+    abbrev begun_focus : Option Begun → Moves
+    begun_focus to = focus c (begun_next true to p) d k (begun_state true to s) f
+
+    abbrev before : List ℕ
+    before = drop back.least (places_back c.setting.scene back.most s.place)
+
+    try_begun : (places : List ℕ) → length places ≤ 1
+        → begun_focus (option_map placed (first_of places)) ≡ try_path (reverse places) P s (past c d k p) f (k.hand p)
+    unfolding try_path
+    try_begun [] le = refl
+    try_begun (x ∷ []) le = refl
+    try_begun (x ∷ y ∷ more) le = absurd (omega (arith, le))
+
+    settles_so : settles c p ≡ not (back.least == back.most)
+    settles_so = ap (settles_by c) own ∙ ap differ lengths
+
+    -- of one length, it begins so far before the place
+    begun_one : (back.least == back.most) ≡ true
+        → begun_focus (begun_by c (lengths_back back) s.place)
+        ≡ try_path (reverse before) P s k.follow f (k.hand p)
+    begun_one same =
+        let equal : back.least ≡ back.most = eqb-true back.least back.most same in
+        ap (λ b. begun_focus (begun_within c b back.least back.most s.place)) same
+        ∙ try_begun (drop back.most (places_back c.setting.scene back.most s.place))
+        (one_place c.setting.scene back.most s.place)
+        ∙ ap (λ (z : Follow). try_path (reverse (drop back.most (places_back c.setting.scene back.most s.place))) P s z
+        f (k.hand p)) (past_end p alone false (settles_so ∙ ap not same) d k)
+        ∙ ap (λ n. try_path (reverse (drop n (places_back c.setting.scene back.most s.place))) P s k.follow f
+        (k.hand p)) (sym equal)
+
+    -- where they differ, it is tried from as many back as stand before
+    abbrev room : ℕ
+    room = length (places_back c.setting.scene back.most s.place) - 1
+
+    none_tried : room < back.least → f ≡ tries_path c.setting (reverse before) P s k.follow f (k.hand p)
+    unfolding tries_path
+    none_tried few =
+        let long : length (places_back c.setting.scene back.most s.place) ≤ back.least =
+        let some = some_back c.setting.scene back.most s.place in omega (arith, few, some) in
+        sym (ap (λ ps. tries_path c.setting (reverse ps) P s k.follow f (k.hand p)) (drop_all back.least _ long))
+
+    tried_from : (b : Bool) → nat_lt room back.least ≡ b
+        → begun_focus (if b then None else Some (tried room))
+        ≡ tries_path c.setting (reverse before) P s k.follow f (k.hand p)
+    tried_from true e = none_tried (ltb-true room back.least e)
+    tried_from false e =
+        ap (λ x. tries_from c x room P s k.follow f (k.hand p)) lengths
+        ∙ ap (λ ps. tries_path c.setting (reverse (drop back.least ps)) P s k.follow f (k.hand p))
+        (sym (back_room c.setting.scene back.most s.place))
+
+    begun_many : (back.least == back.most) ≡ false
+        → begun_focus (begun_by c (lengths_back back) s.place)
+        ≡ tries_path c.setting (reverse before) P s k.follow f (k.hand p)
+    begun_many differs =
+        ap (λ b. begun_focus (begun_within c b back.least back.most s.place)) differs
+        ∙ tried_from (nat_lt room back.least) refl
+
+    abbrev behind_by : Bool → Moves
+    behind_by b = elim b [
+      | true ↦ try_path (reverse before) P s k.follow f (k.hand p)
+      | false ↦ tries_path c.setting (reverse before) P s k.follow f (k.hand p)
+    ]
+
+    begun_behind : begun_focus (begun_place c p s.place)
+        ≡ behind_path c.setting (branch_lengths c.setting (tree_of c p)) P s k.follow f (k.hand p)
+    unfolding behind_path
+    begun_behind =
+        ap (λ x. begun_focus (begun_by c x s.place)) lengths
+        ∙ (elim (cases_Bool (back.least == back.most)) [
+          | inl same ↦ begun_one same ∙ ap behind_by (sym same)
+          | inr differs ↦ begun_many differs ∙ ap behind_by (sym differs)
+        ])
+        ∙ ap (λ x. behind_path c.setting x P s k.follow f (k.hand p)) (sym lengths)
+
+  begun_tree : (t : Nested) (q p : ℕ) → (is_behind t ≡ true → IsFixedPart c p)
+      → c.rest p ≡ branch_rest c t (c.rest q) → c.look_branch p ≡ branch_look t (c.look_branch q) p →
+      (d : ℕ) (k : Outside) (s : State) (f : Moves) →
+      focus c (begun_next (is_behind t) (begun_place c p s.place) p) d k
+      (begun_state (is_behind t) (begun_place c p s.place) s) f
+      ≡ branch_path c t d (tree_of c p) s (beyond_by c t d k q) f (k.hand p)
+  begun_tree (tree.look false positive once ts) q p fixed linked looked d k s f =
+      let l = limited (branch_lengths c.setting (tree_of c p)) (fixed refl) in
+      begun_behind p d k s f linked looked l.0 l.1
+  begun_tree (tree.group None ts) q p fixed linked looked d k s f =
+      ap (λ (z : Follow). paths c.setting d (tree_of c p) s z f (k.hand p))
+      (beyond_is (tree.group None ts) p q refl linked looked d k)
+  begun_tree _ q p fixed linked looked d k s f =
+      ap (λ (z : Follow). paths c.setting d (tree_of c p) s z f (k.hand p))
+      (past_end p linked false (ap (settles_by c) looked) d k)
 
   -- a branch that is begun, with what follows the branches of its part
   pub begun_is : (q p : ℕ) → (is_behind (tree_of c q) ≡ true → IsFixedPart c p)
-      → c.rest p ≡ branch_rest c (tree_of c q) (c.rest q) →
+      → c.rest p ≡ branch_rest c (tree_of c q) (c.rest q)
+      → c.look_branch p ≡ branch_look (tree_of c q) (c.look_branch q) p →
       (d : ℕ) (k : Outside) (h : Handler) → k.hand p ≡ h → (s : State) (f : Moves) →
       focus c (begun_next (is_behind (tree_of c q)) (begun_place c p s.place) p) d k
       (begun_state (is_behind (tree_of c q)) (begun_place c p s.place) s) f
-      ≡ branch_path c (tree_of c q) d (tree_of c p) s (after c d k (branch_rest c (tree_of c q) (c.rest q))) f h
-  begun_is q p fixed linked d k h same s f =
-      begun_focus (is_behind (tree_of c q)) (begun_place c p s.place) p d k s f
-      ∙ begun_kid (tree_of c q) p fixed d s (after c d k (c.rest p)) f (k.hand p)
-      ∙ ap (λ (r : List ℕ). branch_path c (tree_of c q) d (tree_of c p) s (after c d k r) f (k.hand p)) linked
-      ∙ ap (λ (z : Handler). branch_path c (tree_of c q) d (tree_of c p) s
-      (after c d k (branch_rest c (tree_of c q) (c.rest q))) f z) same
+      ≡ branch_path c (tree_of c q) d (tree_of c p) s (beyond c d k q) f h
+  begun_is q p fixed linked looked d k h same s f =
+      begun_tree (tree_of c q) q p fixed linked looked d k s f
+      ∙ ap (λ (z : Handler). branch_path c (tree_of c q) d (tree_of c p) s (beyond c d k q) f z) same
 
   abbrev pub first_state : Bool → List ℕ → State → State
   first_state b [] s = s
@@ -315,16 +415,17 @@ module _ (c : Ground) where
       → IsAgreed h (k.hand q) → (s : State) (f : Moves) →
       focus c (first_begun c (is_behind (tree_of c q)) q ks s.place) d k (first_state (is_behind (tree_of c q)) ks s) f
       ≡ branch_paths c.setting (kid_paths c (tree_of c q) d ks) s
-      (after c d k (branch_rest c (tree_of c q) (c.rest q))) f h
+      (beyond c d k q) f h
   unfolding branch_paths
   first_branch q d [] b k h a r s f = refl
   first_branch q d (p ∷ []) b k h a r s f =
       begun_is q p (λ e. All-head (IsFixedPart c) p [] (b.fixed e))
-      (All-head (λ x. c.rest x ≡ branch_rest c (tree_of c q) (c.rest q)) p [] b.linked) d k h a s f
+      (All-head (λ x. c.rest x ≡ branch_rest c (tree_of c q) (c.rest q)) p [] b.linked)
+      (All-head (λ x. c.look_branch x ≡ branch_look (tree_of c q) (c.look_branch q) x) p [] b.looked) d k h a s f
   first_branch q d (p ∷ p' ∷ ps) b k h a r s f =
-      branch_is q 0 d (p ∷ p' ∷ ps) b s (after c d k (branch_rest c (tree_of c q) (c.rest q))) f (k.hand q)
+      branch_is q 0 d (p ∷ p' ∷ ps) b s (beyond c d k q) f (k.hand q)
       ∙ sym (choices_same (kid_paths c (tree_of c q) d (p ∷ p' ∷ ps)) s
-      (after c d k (branch_rest c (tree_of c q) (c.rest q))) f h (k.hand q) r)
+      (beyond c d k q) f h (k.hand q) r)
 
   -- where they begin at the place itself
   pub first_plain : (q : ℕ) (ks : List ℕ) (place : ℕ) → first_begun c false q ks place ≡ first_next q ks
@@ -340,13 +441,13 @@ module _ (c : Ground) where
   pub first_here : (q d : ℕ) (ks : List ℕ) → IsBranched c q ks → (k : Outside) (h : Handler) → Alone k ks h
       → IsAgreed h (k.hand q) → (s : State) (f : Moves) → is_behind (tree_of c q) ≡ false →
       focus c (first_next q ks) d k s f
-      ≡ branch_paths c.setting (part_paths c d ks) s (after c d k (branch_rest c (tree_of c q) (c.rest q))) f h
+      ≡ branch_paths c.setting (part_paths c d ks) s (beyond c d k q) f h
   first_here q d ks b k h a r s f plain =
       sym (ap (λ n. focus c n d k s f) (first_plain q ks s.place))
       ∙ sym (ap (λ u. focus c (first_begun c false q ks s.place) d k u f) (state_plain ks s))
       ∙ sym (ap (λ (x : Bool). focus c (first_begun c x q ks s.place) d k (first_state x ks s) f) plain)
       ∙ first_branch q d ks b k h a r s f
-      ∙ ap (λ (xs : List Path). branch_paths c.setting xs s (after c d k (branch_rest c (tree_of c q) (c.rest q))) f
+      ∙ ap (λ (xs : List Path). branch_paths c.setting xs s (beyond c d k q) f
       h) (plain_kids (tree_of c q) plain d ks)
 
   none_some : (p : ℕ) → None ≡ Some p → ⊥
@@ -365,22 +466,24 @@ module _ (c : Ground) where
   All-at P (x ∷ ks) zero p a e = subst P (some_same x p e) (All-head P x ks a)
   All-at P (x ∷ ks) (suc i) p a e = All-at P ks i p (All-tail P x ks a) e
 
-  -- where nothing follows the branches, they end their frame
-  pub branches_in : (q d : ℕ) (ks : List ℕ) → IsBranched c q ks → branch_rest c (tree_of c q) (c.rest q) ≡ [] →
+  -- the branches of a part end their frame
+  abbrev pub EndsFrame : ℕ → Type 0
+  EndsFrame q = (d : ℕ) (k : Outside) → beyond c d k q ≡ k.follow
+
+  pub branches_in : (q d : ℕ) (ks : List ℕ) → IsBranched c q ks → EndsFrame q →
       (k : Outside) (h : Handler) → Alone k ks h → IsAgreed h (k.hand q) → (s : State) (f : Moves) →
       branch_paths c.setting (kid_paths c (tree_of c q) d ks) s k.follow f h
       ≡ focus c (first_begun c (is_behind (tree_of c q)) q ks s.place) d k
       (first_state (is_behind (tree_of c q)) ks s) f
   branches_in q d ks b none k h a r s f =
-      ap (λ (z : Follow). branch_paths c.setting (kid_paths c (tree_of c q) d ks) s z f h)
-      (sym (after_nil d k) ∙ ap (after c d k) (sym none))
+      ap (λ (z : Follow). branch_paths c.setting (kid_paths c (tree_of c q) d ks) s z f h) (sym (none d k))
       ∙ sym (first_branch q d ks b k h a r s f)
 
   -- one branch of a part
   module _ (q i d : ℕ) (ks : List ℕ) (b : IsBranched c q ks) (p : ℕ) (at : slice_get ks i ≡ Some p) (s : State)
       (k : Outside) (f : Moves) where
     abbrev K : Follow
-    K = after c d k (branch_rest c (tree_of c q) (c.rest q))
+    K = beyond c d k q
 
     choice_at : focus c (Branch q i) d k s f
         ≡ choice_paths c.setting (branch_path c (tree_of c q) d (tree_of c p) ∷ kid_paths c (tree_of c q) d
@@ -392,7 +495,7 @@ module _ (c : Ground) where
         ∙ ap (kid_paths c (tree_of c q) d) (drop_here ks i p at))
 
     -- what is around it when it is begun, by then
-    pub branch_begun : (now : Outside) → after c d now (branch_rest c (tree_of c q) (c.rest q)) ≡ K
+    pub branch_begun : (now : Outside) → beyond c d now q ≡ K
         → (u : State) (m : Moves) → now.hand p ≡ catching m (k.hand q) →
         branch_path c (tree_of c q) d (tree_of c p) u K m (catching m (k.hand q))
         ≡ focus c (begun_next (is_behind (tree_of c q)) (begun_place c p u.place) p) d now
@@ -401,6 +504,7 @@ module _ (c : Ground) where
         ap (λ (z : Follow). branch_path c (tree_of c q) d (tree_of c p) u z m (catching m (k.hand q))) (sym rest)
         ∙ sym (begun_is q p (λ e. All-at (IsFixedPart c) ks i p (b.fixed e) at)
         (All-at (λ x. c.rest x ≡ branch_rest c (tree_of c q) (c.rest q)) ks i p b.linked at)
+        (All-at (λ x. c.look_branch x ≡ branch_look (tree_of c q) (c.look_branch q) x) ks i p b.looked at)
         d now (catching m (k.hand q)) same u m)
 
     pub branch_last : length ks ≤ suc i → focus c (Branch q i) d k s f ≡ stepped
@@ -445,12 +549,14 @@ module _ (c : Ground) where
 
     branched : (ks r : List ℕ) (t : Nested) → t ≡ tree_of c q → branch_row c t ≡ row (map (tree_at c.trees) ks)
         → branch_rest c t (c.rest q) ≡ r →
-        (is_behind t ≡ true → All (IsFixedPart c) ks) → AllFollowed c.rest r ks → (o : Option ℕ)
+        (is_behind t ≡ true → All (IsFixedPart c) ks) → AllFollowed c.rest r ks
+        → All (λ k. c.look_branch k ≡ branch_look t (c.look_branch q) k) ks → (o : Option ℕ)
         → All (λ k. c.branch k ≡ branch_if ks o k) ks → kids_of n ≡ ks → IsBranched c q ks
-    branched ks r t is rows rest fixed l o own kids = record {
+    branched ks r t is rows rest fixed l looked o own kids = record {
       rows = ap (branch_row c) (sym is) ∙ rows;
       linked = subst (λ x. AllFollowed c.rest x ks) (sym rest ∙ ap (λ x. branch_rest c x (c.rest q)) is) l;
       fixed = λ e. fixed (ap is_behind is ∙ e);
+      looked = subst (λ x. All (λ k. c.look_branch k ≡ branch_look x (c.look_branch q) k) ks) is looked;
       outer = o;
       own = own;
       behind = subst (All (λ k. c.rank q < c.rank k)) kids (kid_ranks c q n i);
@@ -460,28 +566,31 @@ module _ (c : Ground) where
     pub branches_by : (m : Node) → n ≡ m → All (λ k. c.branch k ≡ branch_child m (c.branch q) k) (kids_of m)
     branches_by m e = subst (λ z. All (λ k. c.branch k ≡ branch_child z (c.branch q) k) (kids_of z)) e i.branched
 
+    -- and the branches of lookbehinds
+    looked_by : (m : Node) → n ≡ m → All (λ k. c.look_branch k ≡ look_branch_child m (c.look_branch q) k) (kids_of m)
+    looked_by m e = subst (λ z. All (λ k. c.look_branch k ≡ look_branch_child z (c.look_branch q) k) (kids_of z)) e
+        i.looked
+
     pub branched_group : (number : Option ℕ) (ks : List ℕ) → n ≡ node.Group number ks → IsBranched c q ks
     branched_group None ks e =
         branched ks (c.rest q) (tree.group None (row (map (tree_at c.trees) ks))) (tree_by (node.Group None ks) e)
         refl refl (λ z. absurd (false≢true z))
-        (subst (IsLinked c.rest (c.rest q)) e i.linked) (c.branch q) (branches_by (node.Group None ks) e) (ap kids_of e)
+        (subst (IsLinked c.rest (c.rest q)) e i.linked) (looked_by (node.Group None ks) e) (c.branch q)
+        (branches_by (node.Group None ks) e) (ap kids_of e)
     branched_group (Some m) ks e =
         branched ks [] (tree.group (Some m) (row (map (tree_at c.trees) ks))) (tree_by (node.Group (Some m) ks) e)
         refl refl (λ z. absurd (false≢true z))
-        (subst (IsLinked c.rest (c.rest q)) e i.linked) None (branches_by (node.Group (Some m) ks) e) (ap kids_of e)
+        (subst (IsLinked c.rest (c.rest q)) e i.linked) (looked_by (node.Group (Some m) ks) e) None
+        (branches_by (node.Group (Some m) ks) e) (ap kids_of e)
 
     pub branched_atomic : (ks : List ℕ) → n ≡ node.Atomic ks → IsBranched c q ks
     branched_atomic ks e =
         branched ks [] (tree.atomic (row (map (tree_at c.trees) ks))) (tree_by (node.Atomic ks) e) refl refl
         (λ z. absurd (false≢true z))
-        (subst (IsLinked c.rest (c.rest q)) e i.linked) None (branches_by (node.Atomic ks) e) (ap kids_of e)
+        (subst (IsLinked c.rest (c.rest q)) e i.linked) (looked_by (node.Atomic ks) e) None
+        (branches_by (node.Atomic ks) e) (ap kids_of e)
 
-    -- the branches of a lookbehind have one length each
-    fixed_row : (ks : List ℕ) → AreFixed (branch_lengths c.setting) (row (map (tree_at c.trees) ks))
-        → All (IsFixedPart c) ks
-    fixed_row [] a = All-nil (IsFixedPart c)
-    fixed_row (k ∷ ks) a = All-cons (IsFixedPart c) k ks a.0 (fixed_row ks a.1)
-
+    -- the branches of a lookbehind aren't refused
     fixed_here : IsPart c q → HasFixed (branch_lengths c.setting) (nest c.trees n)
     fixed_here part = let P : Nested → Type 0 = HasFixed (branch_lengths c.setting) in
         all_here P c.trees n i.tests (subst (IsMeasuredIn c) (sym i.is) part.measured)
@@ -490,14 +599,21 @@ module _ (c : Ground) where
         → not ahead ≡ true → All (IsFixedPart c) ks
     fixed_look part true positive once ks e behind = absurd (false≢true behind)
     fixed_look part false positive once ks e behind =
-        fixed_row ks (subst (λ m. HasFixed (branch_lengths c.setting) (nest c.trees m)) e (fixed_here part))
+        fixed_row c ks (subst (λ m. HasFixed (branch_lengths c.setting) (nest c.trees m)) e (fixed_here part))
+
+    looked_look : (ahead positive once : Bool) (ks : List ℕ) → n ≡ node.Look ahead positive once ks
+        → All (λ k. c.look_branch k ≡ branch_look (tree.look ahead positive once (row (map (tree_at c.trees) ks)))
+        (c.look_branch q) k) ks
+    looked_look true positive once ks e = looked_by (node.Look true positive once ks) e
+    looked_look false positive once ks e = looked_by (node.Look false positive once ks) e
 
     pub branched_look : IsPart c q → (ahead positive once : Bool) (ks : List ℕ) → n ≡ node.Look ahead positive once ks
         → IsBranched c q ks
     branched_look part ahead positive once ks e =
         branched ks [] (tree.look ahead positive once (row (map (tree_at c.trees) ks)))
         (tree_by (node.Look ahead positive once ks) e) refl refl (fixed_look part ahead positive once ks e)
-        (subst (IsLinked c.rest (c.rest q)) e i.linked) None (branches_by (node.Look ahead positive once ks) e)
+        (subst (IsLinked c.rest (c.rest q)) e i.linked) (looked_look ahead positive once ks e) None
+        (branches_by (node.Look ahead positive once ks) e)
         (ap kids_of e)
 
     pub behind_look : (ahead positive once : Bool) (ks : List ℕ) → n ≡ node.Look ahead positive once ks
@@ -591,8 +707,7 @@ module _ (c : Ground) where
         by_node (node.Group None ks) e
         ∙ ap (λ (xs : List Path). pause (branch_paths c.setting xs s (past c d k q) f (k.hand q)))
         (row_deep d z ks deep)
-        ∙ ap (λ (r : List ℕ). pause (branch_paths c.setting (part_paths c d ks) s (after c d k r) f (k.hand q)))
-        (ap (λ z. branch_rest c z (c.rest q)) t)
+        ∙ ap (λ (x : Nested). pause (branch_paths c.setting (part_paths c d ks) s (beyond_by c x d k q) f (k.hand q))) t
         ∙ ap pause (sym (first_here q d ks (branched_group q n i None ks e) k (k.hand q) a
         (agreed (k.hand q) (k.hand q) refl) s f (ap is_behind (sym t))))
 

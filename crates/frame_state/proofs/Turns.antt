@@ -1,25 +1,29 @@
 -- The steps of the machine at a part.
 use Rattle.std.proofs.Common.{◌≡◌, ℕ, suc, ◌+◌, ◌-◌, ◌<◌, ◌≤◌, ◌∙◌, Bool, true, false, ◌&&◌, if◌then◌else◌, List, []}
 use Rattle.std.proofs.Common.{◌∷◌, map, Option, Some, None, length, All, slice_get, get_or, ◌⊎◌, inl, inr, refl, sym}
-use Rattle.std.proofs.Common.{ap, subst, arith}
-use Rattle.std.proofs.lemmas.List.Elements.{All-head, All-get_or, All-tail}
+use Rattle.std.proofs.Common.{ap, subst, arith, min, option_map}
+use Rattle.std.specs.Prelude.{◌==◌, nat_lt}
+use Rattle.std.proofs.lemmas.List.Elements.{All-head, All-get_or}
 use Rattle.std.proofs.Math.ListN.{get_or-eq_default}
-use Rattle.std.proofs.lemmas.Bool.{cases_lt}
+use Rattle.std.proofs.lemmas.Bool.{cases_lt, ltb-false, false≢true}
 use Rattle.pat_tree.specs.declared.options.PartialMode.TheVariants.{Off}
 use Rattle.pat_tree.specs.declared.nodes.Item.{Item}
 use Rattle.pat_tree.specs.declared.nodes.AnchorKind.{AnchorKind}
 use Rattle.pat_tree.specs.declared.nodes.Node.{Node}
 use Rattle.pat_tree.specs.declared.nodes.Node.TheVariants as node
-use Rattle.pat_tree.specs.Nested.{row, nest, tree_at}
+use Rattle.pat_tree.specs.Nested as tree
+use Rattle.pat_tree.specs.Nested.{Nested, row, nest, tree_at}
 use Rattle.pat_tree.specs.Rules.{kids_of}
 use Rattle.match_items.specs.Items.{after_item, item_reaches, after_break, break_reaches, after_ref, holds}
-use Rattle.match_items.specs.Items.{anchor_reaches, earliest}
+use Rattle.match_items.specs.Items.{anchor_reaches, earliest, places_back}
 use Rattle.frame_store.specs.declared.registers.Span.{Span}
 use Rattle.frame_store.specs.Captures.{Captures, capture}
 use Rattle.frame_store.specs.Entry.{Entry, GroupOpen, LaterBranch, Site, Kept, entry_site}
 use Rattle.ordered_search.specs.Stream.{State, prune, skip, commit, reached}
 use Rattle.ordered_search.specs.PlaceAnswer.{answers, MatchLimit, FrameLimit}
-use Rattle.pat_lengths.specs.Lengths.{SomeLengths, between}
+use Rattle.pat_lengths.specs.Backs.{lengths_back}
+use Rattle.pat_lengths.specs.declared.backs.Back.{Back as Lengths}
+use Rattle.pat_lengths.proofs.BackLemmas.{limited}
 use Rattle.ordered_search.specs.Setting.{branch_lengths}
 use Rattle.ordered_search.specs.Moves.{Moves, pause, stepped, Follow, Path, catching, going, holding, reaching}
 use Rattle.ordered_search.specs.Moves.{tread, Handler}
@@ -28,16 +32,19 @@ use Rattle.frame_state.specs.declared.machine.Next.TheVariants.{Enter, Branch, O
 use Rattle.frame_state.specs.declared.machine.Met.{Met}
 use Rattle.frame_state.specs.declared.machine.Spot.{Spot}
 use Rattle.frame_state.specs.declared.machine.Stop.{Stop}
-use Rattle.frame_state.specs.Begun.{is_behind, begun_by, begun_place, begun_next, begun_spot, first_begun, first_spot}
-use Rattle.frame_state.specs.Branches.{IsBranched}
-use Rattle.frame_state.specs.Ground.{Ground, tree_of, next_of, BeginsBy, IsNode, StandsIf, IsGround, IsPart}
-use Rattle.frame_state.specs.Machine.{Around, Outside, kept_at, conf, first_set, first_next, row_length, towards}
-use Rattle.frame_state.specs.Machine.{entry_kept, state_at, heard}
-use Rattle.frame_state.specs.Frames.{after, past, branch_rest, branch_path, around, around_at, outside, cont, caught}
+use Rattle.frame_state.specs.Behind.{place_back}
+use Rattle.frame_state.specs.Begun.{Begun, placed, tried, is_behind, IsFixedPart, begun_within, begun_by, begun_place}
+use Rattle.frame_state.specs.Begun.{begun_next, begun_spot, first_begun, first_spot}
+use Rattle.frame_state.specs.Branches.{IsBranched, branch_look}
+use Rattle.frame_state.specs.Ground.{Ground, tree_of, IsNode, StandsIf, IsGround, IsPart}
+use Rattle.frame_state.specs.Machine.{Around, Outside, kept_at, conf, first_set, first_next, row_length, onward}
+use Rattle.frame_state.specs.Machine.{entry_kept, state_at, heard, place_at}
+use Rattle.frame_state.specs.Frames.{past, branch_rest, beyond_by, beyond, branch_path, around, around_at, outside, cont}
+use Rattle.frame_state.specs.Frames.{caught}
 use Rattle.frame_state.specs.Frames.{fail, focus, spot_state, ahead, frame_around, hand}
 use Rattle.frame_state.specs.Over.{GoesBy}
 use Rattle.frame_state.specs.Validity.{IsLater, StandsAt, IsRepeat, IsCapture, SpanStands, AreSpans, IsRunning}
-use Rattle.frame_state.specs.Validity.{IsValid, Advances, IsSound}
+use Rattle.frame_state.specs.Validity.{IsValid, Advances, IsSound, IsTried}
 use Rattle.frame_state.specs.Stops.{moved_next, moved_spot, held_next, held_early, part_next, tells, IsStop}
 use Rattle.frame_state.specs.Reach.{asks, IsNoted, IsHardStop, IsTested, IsAnchored, referred_reaches}
 use Rattle.frame_state.proofs.ReachTurns.{noted_off, noted_asked, stop_asked, advance_noted, stop_noted}
@@ -47,12 +54,13 @@ use Rattle.frame_state.proofs.KidParts.{kid_parts, kid_ranks}
 use Rattle.frame_state.proofs.PartPaths.{enter_empty, enter_keep, enter_one, enter_break, enter_anchor, enter_ref}
 use Rattle.frame_state.proofs.PartPaths.{enter_seq_none, enter_seq, enter_group, enter_capture, enter_repeat}
 use Rattle.frame_state.proofs.PartPaths.{branch_begun, branch_last, branch_more, Alike, Alone, IsAgreed}
-use Rattle.frame_state.proofs.PartPaths.{catching_same, branches_by, All-at, part_paths, kid_paths, plain_kids}
+use Rattle.frame_state.proofs.PartPaths.{catching_same, branches_by, tree_by, EndsFrame, All-at, part_paths, kid_paths, plain_kids}
 use Rattle.frame_state.proofs.PartPaths.{begun_state, first_state, first_plain, branched_group, branches_in}
 use Rattle.frame_state.proofs.Frames.{focus_towards, running_towards, around_here, around_push, heard_push}
 use Rattle.frame_state.proofs.Frames.{focus_framed, sound_less, caught_push, hand_same, hand_frame, hand_begun}
-use Rattle.frame_state.proofs.Frames.{caught_through, around_with, inside_of, outside_push, after_agrees, rest_all}
-use Rattle.frame_state.proofs.Frames.{later_more, later_push, later_none, contained_push, contained_none}
+use Rattle.frame_state.proofs.Frames.{caught_through, around_with, inside_of, outside_push, beyond_agrees, place_here}
+use Rattle.frame_state.proofs.BehindLemmas.{some_back, back_room}
+use Rattle.frame_state.proofs.Frames.{place_push, later_more, later_push, later_none, contained_push, contained_none}
 use Rattle.frame_state.proofs.Advance.{goes_pause, advance_from, holding_room, holding_full, advance_pause}
 use Rattle.frame_state.proofs.Advance.{advance_step, over_steps, over_units, over_units_step, goes_on, stays}
 use Rattle.frame_store.specs.Undo.{taken_back}
@@ -97,12 +105,12 @@ pub alike : (c : Ground) (stack : List Entry) (caps : Captures) (l q : ℕ) (ks 
 alike c stack caps l q ks same = λ i d h. hand_same c stack caps l (get_or ks i d) q (same i d h)
 
 -- and in a branch that is alone
-pub alone : (c : Ground) (stack : List Entry) (caps : Captures) (l : ℕ) (k : Follow) (ks : List ℕ) (o : Option ℕ)
-    (h : Handler) → All (λ p. c.branch p ≡ branch_if ks o p) ks →
-    ((p : ℕ) → c.branch p ≡ o → hand c stack caps l p ≡ h) → Alone c (around_with c k (hand c stack caps l)) ks h
-alone c stack caps l k [] o h own same = tt
-alone c stack caps l k (p ∷ []) o h own same = same p (All-head (λ x. c.branch x ≡ o) p [] own)
-alone c stack caps l k (p ∷ p' ∷ ps) o h own same = tt
+pub alone : (c : Ground) (stack : List Entry) (caps : Captures) (l : ℕ) (k : Follow) (place : ℕ) (ks : List ℕ)
+    (o : Option ℕ) (h : Handler) → All (λ p. c.branch p ≡ branch_if ks o p) ks →
+    ((p : ℕ) → c.branch p ≡ o → hand c stack caps l p ≡ h) → Alone c (around_with c k place (hand c stack caps l)) ks h
+alone c stack caps l k place [] o h own same = tt
+alone c stack caps l k place (p ∷ []) o h own same = same p (All-head (λ x. c.branch x ≡ o) p [] own)
+alone c stack caps l k place (p ∷ p' ∷ ps) o h own same = tt
 
 -- What verbs lead to but for THEN is the frame's in each part.
 
@@ -128,60 +136,93 @@ agreed_hands c stack other caps now l p e =
 -- A branch is begun: where it begins stands.
 
 module _ (c : Ground) (ok : IsGround c) where
-  stands_by : (least : ℕ) (most : Option ℕ) (place : ℕ) → c.stands place ≡ true
-      → StandsIf c (begun_by c (between least most) place)
-  stands_by least None place h = tt
-  stands_by least (Some most) place h = ok.steps_back most place h
+  -- what holds of it
+  abbrev pub IsBegun : (p place at : ℕ) → Option Begun → Type 0
+  IsBegun p place at None = Unit {0}
+  IsBegun p place at (Some (placed q)) = c.stands q ≡ true
+  IsBegun p place at (Some (tried n)) = IsTried c p n place at
 
-  stands_begun : (a : SomeLengths) (place : ℕ) → c.stands place ≡ true → StandsIf c (begun_by c a place)
-  stands_begun None place h = tt
-  stands_begun (Some a) place h = stands_by a.least a.most place h
+  is_placed : (p place at : ℕ) (o : Option ℕ) → StandsIf c o → IsBegun p place at (option_map placed o)
+  is_placed p place at None h = tt
+  is_placed p place at (Some q) h = h
 
-  stands_at : (p place : ℕ) → c.stands place ≡ true → StandsIf c (begun_place c p place)
-  stands_at p place h = stands_begun (branch_lengths c.setting (tree_of c p)) place h
+  module _ (p place at : ℕ) (here : c.stands place ≡ true) (fixed : IsFixedPart c p) (own : c.look_branch p ≡ Some p)
+      (alone : c.rest p ≡ []) (framed : place ≡ at) where
+    is_tried : (b : Lengths) → branch_lengths c.setting (tree_of c p) ≡ lengths_back b → (b.least == b.most) ≡ false
+        → (few : Bool) → nat_lt (length (places_back c.setting.scene b.most place) - 1) b.least ≡ few
+        → IsBegun p place at (if few then None
+        else Some (tried (length (places_back c.setting.scene b.most place) - 1)))
+    is_tried b lengths differs true e = tt
+    is_tried b lengths differs false e =
+        let n : ℕ = length (places_back c.setting.scene b.most place) - 1 in
+        let some = some_back c.setting.scene b.most place in
+        let same : length (places_back c.setting.scene b.most place) ≡ length (places_back c.setting.scene n place) =
+        ap length (back_room c.setting.scene b.most place) in
+        record {
+          fixed = fixed;
+          own = own;
+          alone = alone;
+          back = b;
+          lengths = lengths;
+          differ = differs;
+          least = ltb-false n b.least e;
+          room = omega (arith, some, same);
+          framed = framed;
+        }
 
-  begun_ahead : (b : Bool) (to : Option ℕ) (p : ℕ) (spot : Spot) (stack : List Entry) (caps : Captures) →
+    is_within : (b : Lengths) → branch_lengths c.setting (tree_of c p) ≡ lengths_back b → (same : Bool)
+        → (b.least == b.most) ≡ same → IsBegun p place at (begun_within c same b.least b.most place)
+    is_within b lengths true e =
+        is_placed p place at (place_back c.setting.scene b.most place) (ok.steps_back b.most place here)
+    is_within b lengths false e =
+        is_tried b lengths e (nat_lt (length (places_back c.setting.scene b.most place) - 1) b.least) refl
+
+    pub begun_so : IsBegun p place at (begun_place c p place)
+    begun_so =
+        let l = limited (branch_lengths c.setting (tree_of c p)) fixed in
+        let b : Lengths = l.0 in
+        subst (λ x. IsBegun p place at (begun_by c x place)) (sym l.1) (is_within b l.1 (b.least == b.most) refl)
+
+  begun_ahead : (b : Bool) (to : Option Begun) (p : ℕ) (spot : Spot) (stack : List Entry) (caps : Captures) →
       ahead c (conf (begun_next b to p) (begun_spot b to spot) stack caps)
       ≡ focus c (begun_next b to p) (around c stack spot.frame).depth (outside c stack caps spot.frame)
       (state_at (around_at c stack spot.frame spot.passed) (kept_at (begun_spot b to spot)) caps)
       (fail c stack caps)
   begun_ahead false to p spot stack caps = refl
   begun_ahead true None p spot stack caps = refl
-  begun_ahead true (Some place) p spot stack caps = refl
+  begun_ahead true (Some (placed place)) p spot stack caps = refl
+  begun_ahead true (Some (tried n)) p spot stack caps = refl
 
-  begun_kept : (b : Bool) (to : Option ℕ) (a : Around) (spot : Spot) (caps : Captures)
+  begun_kept : (b : Bool) (to : Option Begun) (a : Around) (spot : Spot) (caps : Captures)
       → state_at a (kept_at (begun_spot b to spot)) caps ≡ begun_state c b to (state_at a (kept_at spot) caps)
   begun_kept false to a spot caps = refl
   begun_kept true None a spot caps = refl
-  begun_kept true (Some place) a spot caps = refl
+  begun_kept true (Some (placed place)) a spot caps = refl
+  begun_kept true (Some (tried n)) a spot caps = refl
 
-  begun_left : (b : Bool) (to : Option ℕ) (spot : Spot) → (begun_spot b to spot).left ≡ spot.left
+  begun_left : (b : Bool) (to : Option Begun) (spot : Spot) → (begun_spot b to spot).left ≡ spot.left
   begun_left false to spot = refl
   begun_left true None spot = refl
-  begun_left true (Some place) spot = refl
+  begun_left true (Some (placed place)) spot = refl
+  begun_left true (Some (tried n)) spot = refl
 
-  begun_last : (b : Bool) (to : Option ℕ) (spot : Spot) → (begun_spot b to spot).last ≡ spot.last
+  begun_last : (b : Bool) (to : Option Begun) (spot : Spot) → (begun_spot b to spot).last ≡ spot.last
   begun_last false to spot = refl
   begun_last true None spot = refl
-  begun_last true (Some place) spot = refl
+  begun_last true (Some (placed place)) spot = refl
+  begun_last true (Some (tried n)) spot = refl
 
-  begun_told : (b : Bool) (to : Option ℕ) (spot : Spot) → stays (begun_spot b to spot) ≡ stays spot
+  begun_told : (b : Bool) (to : Option Begun) (spot : Spot) → stays (begun_spot b to spot) ≡ stays spot
   begun_told false to spot = refl
   begun_told true None spot = refl
-  begun_told true (Some place) spot = refl
+  begun_told true (Some (placed place)) spot = refl
+  begun_told true (Some (tried n)) spot = refl
 
-  begun_valid : (b : Bool) (to : Option ℕ) → StandsIf c to
-      → (p : ℕ) (spot : Spot) (stack : List Entry) (caps : Captures) →
-      IsValid c (conf (Enter p) spot stack caps)
-      → IsValid c (conf (begun_next b to p) (begun_spot b to spot) stack caps)
-  begun_valid false to h p spot stack caps v = v
-  begun_valid true None h p spot stack caps v = record {
-    running = tt;
-    records = v.records;
-    spans = v.spans;
-    slots = v.slots;
-  }
-  begun_valid true (Some place) h p spot stack caps v =
+  -- a branch is run from a place
+  pub placed_valid : (p place : ℕ) → c.stands place ≡ true → (spot : Spot) (stack : List Entry) (caps : Captures)
+      → IsValid c (conf (Enter p) spot stack caps)
+      → IsValid c (conf (Enter p) (record spot { place = place; early = min spot.early place }) stack caps)
+  placed_valid p place h spot stack caps v =
       let w = v.running.1 in
       record {
         running = (
@@ -201,6 +242,43 @@ module _ (c : Ground) (ok : IsGround c) where
         spans = v.spans;
         slots = v.slots;
       }
+
+  begun_valid : (b : Bool) (to : Option Begun) (p : ℕ) (spot : Spot) (stack : List Entry) (caps : Captures)
+      → (b ≡ true → IsBegun p spot.place (place_at stack spot.frame) to) →
+      IsValid c (conf (Enter p) spot stack caps)
+      → IsValid c (conf (begun_next b to p) (begun_spot b to spot) stack caps)
+  begun_valid false to p spot stack caps h v = v
+  begun_valid true None p spot stack caps h v = record {
+    running = tt;
+    records = v.records;
+    spans = v.spans;
+    slots = v.slots;
+  }
+  begun_valid true (Some (placed place)) p spot stack caps h v = placed_valid p place (h refl) spot stack caps v
+  begun_valid true (Some (tried n)) p spot stack caps h v = record {
+    running = (v.running.0, v.running.1, h refl, v.running.2);
+    records = v.records;
+    spans = v.spans;
+    slots = v.slots;
+  }
+
+  -- the branches of a lookbehind
+  look_own : (t : Nested) (o : Option ℕ) (x : ℕ) → is_behind t ≡ true → branch_look t o x ≡ Some x
+  look_own (tree.look false positive once ts) o x e = refl
+  look_own (tree.look true positive once ts) o x e = absurd (false≢true e)
+  look_own _ o x e = absurd (false≢true e)
+
+  look_alone : (t : Nested) (qs : List ℕ) → is_behind t ≡ true → branch_rest c t qs ≡ []
+  look_alone (tree.look ahead positive once ts) qs e = refl
+  look_alone _ qs e = absurd (false≢true e)
+
+  pub branch_begins : (q : ℕ) (ks : List ℕ) → IsBranched c q ks → is_behind (tree_of c q) ≡ true → (place at : ℕ)
+      → c.stands place ≡ true → place ≡ at → All (λ p. IsBegun p place at (begun_place c p place)) ks
+  branch_begins q ks b back place at here framed = λ i d m.
+      let p : ℕ = get_or ks i d in
+      begun_so p place at here (b.fixed back i d m)
+      (b.looked i d m ∙ look_own (tree_of c q) (c.look_branch q) p back)
+      (b.linked i d m ∙ look_alone (tree_of c q) (c.rest q) back) framed
 
 -- a part is run
 module _ (c : Ground) (ok : IsGround c) (q : ℕ) (spot : Spot) (stack : List Entry) (caps : Captures)
@@ -235,7 +313,7 @@ module _ (c : Ground) (ok : IsGround c) (q : ℕ) (spot : Spot) (stack : List En
       (record { running = tt; records = v.records; spans = v.spans; slots = v.slots })
   turn_going b (Some p) met h w e =
       let to : Spot = record spot { place = p; last = met } in
-      advance_noted c _ (conf (towards (next_of c q)) to stack caps) b spot.early (spot_state c spot stack caps) _ e
+      advance_noted c _ (conf (onward c q) to stack caps) b spot.early (spot_state c spot stack caps) _ e
       refl w
       (focus_towards c ok q v.running.0 _ _ _ _) refl
       (record {
@@ -379,7 +457,7 @@ module _ (c : Ground) (ok : IsGround c) (q : ℕ) (spot : Spot) (stack : List En
     turn_held met w true h =
         let to : Spot = record spot { early = earliest c.setting.scene kind spot.place spot.early; last = met } in
         let stands = v.running.1 in
-        advance_noted c _ (conf (towards (next_of c q)) to stack caps) _ _ looked _
+        advance_noted c _ (conf (onward c q) to stack caps) _ _ looked _
         (entered_anchor
         ∙ ap (λ b. pause (reaching c.setting (anchor_reaches c.setting.scene kind spot.place) looked (held b)))
         h) refl w
@@ -424,12 +502,12 @@ module _ (c : Ground) (ok : IsGround c) (q : ℕ) (spot : Spot) (stack : List En
         (stop_asked c (anchor_reaches c.setting.scene kind spot.place) _ refl _ spot.last new.last s h)
 
   pub turn_empty : n ≡ node.Empty → Advances c (conf (Enter q) spot stack caps)
-      (conf (towards (next_of c q)) spot stack caps)
+      (conf (onward c q) spot stack caps)
   turn_empty e = goes_on c _ spot stack caps v.records v.spans v.slots ok q v.running.0 v.running.2 v.running.1 refl
       (enter_empty c ok q n i _ _ _ _ _ deep e)
 
   pub turn_keep : n ≡ node.KeepOut → Advances c (conf (Enter q) spot stack caps)
-      (conf (towards (next_of c q)) (record spot { keep = spot.place }) stack caps)
+      (conf (onward c q) (record spot { keep = spot.place }) stack caps)
   turn_keep e =
       let w = v.running.1 in
       goes_on c _ (record spot { keep = spot.place }) stack caps v.records v.spans v.slots ok q v.running.0 v.running.2
@@ -456,7 +534,7 @@ module _ (c : Ground) (ok : IsGround c) (q : ℕ) (spot : Spot) (stack : List En
       later_more c spot.frame q p stack (omega (arith, first)) v.running.2
 
   pub turn_seq_none : n ≡ node.Seq [] → Advances c (conf (Enter q) spot stack caps)
-      (conf (towards (next_of c q)) spot stack caps)
+      (conf (onward c q) spot stack caps)
   turn_seq_none e = goes_on c _ spot stack caps v.records v.spans v.slots ok q v.running.0 v.running.2 v.running.1
       refl (enter_seq_none c q n i _ _ _ _ _ deep e)
 
@@ -480,28 +558,35 @@ module _ (c : Ground) (ok : IsGround c) (q : ℕ) (spot : Spot) (stack : List En
   -- where branches begin
   first_running : (p : ℕ) (ks : List ℕ) → IsPart c p → All (IsPart c) ks → IsBranched c p ks
       → (spot' : Spot) (stack' : List Entry) → StandsAt c spot' stack' (around c stack' spot'.frame).depth →
-      IsLater c spot'.frame p stack' → IsRunning c spot' stack' (first_next p ks)
-  first_running p [] inside parts b spot' stack' w l = tt
-  first_running p (x ∷ []) inside parts b spot' stack' w l =
+      IsLater c spot'.frame p stack'
+      → (is_behind (tree_of c p) ≡ true → spot'.place ≡ place_at stack' spot'.frame)
+      → IsRunning c spot' stack' (first_next p ks)
+  first_running p [] inside parts b spot' stack' w l at = tt
+  first_running p (x ∷ []) inside parts b spot' stack' w l at =
       let lt : c.rank p < c.rank x = All-head (λ k. c.rank p < c.rank k) x [] b.behind in
       (All-head (IsPart c) x [] parts, w, later_more c spot'.frame p x stack' (omega (arith, lt)) l)
-  first_running p (x ∷ y ∷ ps) inside parts b spot' stack' w l = (
+  first_running p (x ∷ y ∷ ps) inside parts b spot' stack' w l at = (
     inside,
     w,
     (
-      subst (λ r. 0 < row_length r) (sym b.rows) (omega arith),
-      subst (λ r. 1 < row_length r) (sym b.rows) (omega arith),
+      (
+        subst (λ r. 0 < row_length r) (sym b.rows) (omega arith),
+        subst (λ r. 1 < row_length r) (sym b.rows) (omega arith),
+      ),
+      at,
     ),
     l,
   )
 
   first_valid : (b : Bool) (p : ℕ) (ks : List ℕ) (spot' : Spot) (stack' : List Entry) (caps' : Captures)
-      → c.stands spot'.place ≡ true →
+      → (b ≡ true → All (λ x. IsBegun c ok x spot'.place (place_at stack' spot'.frame)
+      (begun_place c x spot'.place)) ks) →
       IsValid c (conf (first_next p ks) spot' stack' caps')
       → IsValid c (conf (first_begun c b p ks spot'.place) (first_spot c b ks spot') stack' caps')
   first_valid b p [] spot' stack' caps' h w = w
-  first_valid b p (x ∷ []) spot' stack' caps' h w = begun_valid c ok b (begun_place c x spot'.place)
-      (stands_at c ok x spot'.place h) x spot' stack' caps' w
+  first_valid b p (x ∷ []) spot' stack' caps' h w = begun_valid c ok b (begun_place c x spot'.place) x spot' stack'
+      caps' (λ e. All-head (λ y. IsBegun c ok y spot'.place (place_at stack' spot'.frame)
+      (begun_place c y spot'.place)) x [] (h e)) w
   first_valid b p (x ∷ y ∷ ps) spot' stack' caps' h w = w
 
   first_ahead : (b : Bool) (p : ℕ) (ks : List ℕ) (spot' : Spot) (stack' : List Entry) (caps' : Captures) →
@@ -532,7 +617,8 @@ module _ (c : Ground) (ok : IsGround c) (q : ℕ) (spot : Spot) (stack : List En
   alone_here : (ks : List ℕ) → n ≡ node.Group None ks
       → Alone c (outside c stack caps spot.frame) ks (hand c stack caps spot.frame q)
   alone_here ks e =
-      alone c stack caps spot.frame (cont c stack caps spot.frame) ks (c.branch q) (hand c stack caps spot.frame q)
+      alone c stack caps spot.frame (cont c stack caps spot.frame) (place_at stack spot.frame) ks (c.branch q)
+      (hand c stack caps spot.frame q)
       (branches_by c q n i (node.Group None ks) e)
       (λ p same. hand_same c stack caps spot.frame p q same)
 
@@ -542,7 +628,8 @@ module _ (c : Ground) (ok : IsGround c) (q : ℕ) (spot : Spot) (stack : List En
       advance_pause c _ _ _ (enter_group c ok q n i _ _ _ _ _ deep ks (alone_here ks e) e) refl refl
       (record {
         running = first_running q ks v.running.0 (kids_are ks (ap kids_of e))
-            (branched_group c q n i None ks e) spot stack v.running.1 v.running.2;
+            (branched_group c q n i None ks e) spot stack v.running.1 v.running.2
+            (λ back. absurd (false≢true (ap is_behind (tree_by c q n i (node.Group None ks) e) ∙ back)));
         records = v.records;
         spans = v.spans;
         slots = v.slots;
@@ -573,12 +660,15 @@ module _ (c : Ground) (ok : IsGround c) (q : ℕ) (spot : Spot) (stack : List En
         }
 
     module _ (p : ℕ) (inside : IsPart c p) (ks : List ℕ) (parts : All (IsPart c) ks) (b : IsBranched c p ks)
-        (none : branch_rest c (tree_of c p) (c.rest p) ≡ [])
+        (none : EndsFrame c p)
         (framed : All (λ k. c.branch k ≡ branch_if ks None k) ks) (sound : IsSound c spot.left (length caps) stack r)
         (h : Handler)
         (is : h ≡ caught c (r ∷ stack) caps (suc (length stack))) (z : Moves) where
       abbrev backward : Bool
       backward = is_behind (tree_of c p)
+
+      framed_here : spot.place ≡ place_at (r ∷ stack) (suc (length stack))
+      framed_here = sym (place_here r stack _ refl ∙ ap (λ (k : Kept). k.place) kept)
 
       abbrev level : ℕ
       level = (around c stack spot.frame).depth
@@ -604,16 +694,19 @@ module _ (c : Ground) (ok : IsGround c) (q : ℕ) (spot : Spot) (stack : List En
           ∙ ap (λ (u : State). focus c next level (inside_of c r stack caps) u z)
           (first_kept backward ks (around_at c stack spot.frame spot.passed) opened caps)
           ∙ sym (branches_in c p level ks b none (inside_of c r stack caps) h
-          (alone c (r ∷ stack) caps (suc (length stack)) (inside_of c r stack caps).follow ks None h framed
+          (alone c (r ∷ stack) caps (suc (length stack)) (inside_of c r stack caps).follow (entry_kept r).place ks None h
+          framed
           (λ x none. hand_frame c (r ∷ stack) caps (suc (length stack)) x none ∙ sym is))
           (agreed_frame c (r ∷ stack) caps (suc (length stack)) p h is)
           (state_at (around_at c stack spot.frame spot.passed) (kept_at opened) caps) z))
           (first_told backward ks opened)
-          (first_valid backward p ks opened (r ∷ stack) caps v.running.1.here
+          (first_valid backward p ks opened (r ∷ stack) caps
+          (λ back. branch_begins c ok p ks b back spot.place (place_at (r ∷ stack) (suc (length stack)))
+          v.running.1.here framed_here)
           (record {
             running = first_running p ks inside parts b opened (r ∷ stack) opened_standing
                 (later_none c spot.left (length caps) (suc (length stack)) p (r ∷ stack) (sound, v.records)
-                (omega arith));
+                (omega arith)) (λ back. framed_here);
             records = (sound, v.records);
             spans = v.spans;
             slots = v.slots;
@@ -665,7 +758,7 @@ module _ (c : Ground) (ok : IsGround c) (q : ℕ) (spot : Spot) (stack : List En
       let t : nest c.trees (node.Group (Some m) ks) ≡ tree_of c q = subst (λ z. nest c.trees z ≡ tree_of c q) e i.is in
       opens (GroupOpen (record { node = q; link = spot.frame }) (kept_at spot)) refl refl refl (λ a. refl) room
       q v.running.0 ks (kids_are ks (ap kids_of e)) (branched_group c q n i (Some m) ks e)
-      (ap (λ x. branch_rest c x (c.rest q)) (sym t))
+      (λ d k. ap (λ x. beyond_by c x d k q) (sym t))
       (branches_by c q n i (node.Group (Some m) ks) e)
       (v.running.0, v.running.1, subst (IsCapture c) t tt, v.running.2)
       (hand c stack caps spot.frame q)
@@ -734,7 +827,7 @@ module _ (c : Ground) (ok : IsGround c) (q j : ℕ) (spot : Spot) (stack : List 
   abbrev behind : Bool
   behind = is_behind (tree_of c q)
 
-  abbrev start : Option ℕ
+  abbrev start : Option Begun
   start = begun_place c p spot.place
 
   abbrev K : Outside
@@ -746,19 +839,23 @@ module _ (c : Ground) (ok : IsGround c) (q j : ℕ) (spot : Spot) (stack : List 
   abbrev now : State
   now = spot_state c spot stack caps
 
-  abbrev beyond : List ℕ
-  beyond = branch_rest c (tree_of c q) (c.rest q)
-
   -- of two branches or more each is its own
   own_branch : c.branch p ≡ Some p
   own_branch =
       let counts : row_length (row (map (tree_at c.trees) ks)) ≡ length ks = length_row c ks in
-      let two : 1 < row_length (row (map (tree_at c.trees) ks)) = subst (λ r. 1 < row_length r) b.rows v.running.2.1 in
+      let two : 1 < row_length (row (map (tree_at c.trees) ks)) = subst (λ r. 1 < row_length r) b.rows v.running.2.0.1 in
       All-at c (λ k. c.branch k ≡ branch_if ks b.outer k) ks j p b.own at
       ∙ branch_own ks b.outer p (omega (arith, two, counts))
 
   stands_behind : c.rank q < c.rank p
   stands_behind = All-at c (λ k. c.rank q < c.rank k) ks j p b.behind at
+
+  -- where it begins, under these records
+  begun_under : (st : List Entry) → (is_behind (tree_of c q) ≡ true → spot.place ≡ place_at st spot.frame)
+      → behind ≡ true → IsBegun c ok p spot.place (place_at st spot.frame) start
+  begun_under st framed back =
+      All-at c (λ x. IsBegun c ok x spot.place (place_at st spot.frame) (begun_place c x spot.place)) ks j p
+      (branch_begins c ok q ks b back spot.place (place_at st spot.frame) v.running.1.here (framed back)) at
 
   pub stop_branch : spot.left ≡ 0 → (p' : Option ℕ) → slice_get ks (suc j) ≡ p'
       → length ks ≤ suc j ⊎ ((x : ℕ) × (slice_get ks (suc j) ≡ Some x)) →
@@ -784,7 +881,7 @@ module _ (c : Ground) (ok : IsGround c) (q j : ℕ) (spot : Spot) (stack : List 
       ∙ ap (λ (u : State). focus c (begun_next behind start p) depth_now K u f)
       (begun_kept c ok behind start (around_at c stack spot.frame spot.passed) to caps))
       (omega (arith, begun_left c ok behind start to, left)) (begun_last c ok behind start to)
-      (begun_valid c ok behind start (stands_at c ok p spot.place w.here) p to stack caps
+      (begun_valid c ok behind start p to stack caps (begun_under stack v.running.2.1)
       (record {
         running = (
           inside,
@@ -811,7 +908,7 @@ module _ (c : Ground) (ok : IsGround c) (q j : ℕ) (spot : Spot) (stack : List 
 
     choosing : ahead c (conf (Branch q j) spot stack caps)
         ≡ stepped (holding c.setting 1 now (λ u. branch_path c (tree_of c q) depth_now (tree_of c p) u
-        (after c depth_now K beyond) other (catching other (K.hand q))))
+        (beyond c depth_now K q) other (catching other (K.hand q))))
     choosing = branch_more c q j depth_now ks b p at now K (fail c stack caps) p' at'
 
     pub stop_branch_units : c.setting.matching.frame_limit ≤ spot.units
@@ -825,10 +922,10 @@ module _ (c : Ground) (ok : IsGround c) (q j : ℕ) (spot : Spot) (stack : List 
     abbrev over : Outside
     over = outside c (r ∷ stack) caps spot.frame
 
-    beyond_same : after c depth_now over beyond ≡ after c depth_now K beyond
+    beyond_same : beyond c depth_now over q ≡ beyond c depth_now K q
     beyond_same =
-        after_agrees c q depth_now over K beyond (outside_push c r stack caps spot.frame v.running.1.inside refl)
-        (rest_all c (BeginsBy c q) (tree_of c q) (c.rest q) (All-tail (BeginsBy c q) q (c.rest q) v.running.0.begun))
+        beyond_agrees c q depth_now over K (outside_push c r stack caps spot.frame v.running.1.inside refl) now other
+        (tree_of c q) q v.running.0.begun
 
     branch_hand : over.hand p ≡ catching other (K.hand q)
     unfolding fail
@@ -867,7 +964,8 @@ module _ (c : Ground) (ok : IsGround c) (q j : ℕ) (spot : Spot) (stack : List 
         ∙ ap (λ (u : State). focus c (begun_next behind start p) depth_now over u other)
         (begun_kept c ok behind start (around_at c stack spot.frame spot.passed) to caps))
         (omega (arith, begun_left c ok behind start to, left)) (begun_last c ok behind start to)
-        (begun_valid c ok behind start (stands_at c ok p spot.place w.here) p to (r ∷ stack) caps
+        (begun_valid c ok behind start p to (r ∷ stack) caps
+        (begun_under (r ∷ stack) (λ back. v.running.2.1 back ∙ sym (place_push r stack spot.frame w.inside)))
         (record {
           running = (
             inside,
@@ -895,7 +993,10 @@ module _ (c : Ground) (ok : IsGround c) (q j : ℕ) (spot : Spot) (stack : List 
                 marked = w.marked;
                 contained = w.contained;
               },
-              (subst (λ x. suc j < row_length x) (sym b.rows) (omega (arith, lt, counts)), v.running.2.1),
+              (
+                (subst (λ x. suc j < row_length x) (sym b.rows) (omega (arith, lt, counts)), v.running.2.0.1),
+                v.running.2.1,
+              ),
               v.running.3,
             ),
             sound_less c spot.left (spot.left - 1) (length caps) stack (omega arith) v.records,

@@ -14,7 +14,7 @@ place_back g n p = first_of (drop n (places_back g n p))
 
 -- by the lengths of branches
 module _ (lengths : Nested → SomeLengths) where
-  -- a branch has one length, which isn't too long
+  -- a branch isn't refused
   abbrev pub IsFixed : Nested → Type 0
   IsFixed t = branch_fault (lengths t) ≡ None
 

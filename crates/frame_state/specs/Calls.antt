@@ -54,10 +54,10 @@ IsLatest stack l (Some r) =
 
 -- The part that is called.
 
--- nothing follows it, or it's a capturing group, which ends its frame
+-- nothing follows it, and it's in no lookbehind, or it's a capturing group, which ends its frame
 abbrev pub EndsAlone : Ground → ℕ → Nested → Type 0
 EndsAlone c q (tree.group (Some n) ts) = Unit {0}
-EndsAlone c q _ = c.rest q ≡ []
+EndsAlone c q _ = (c.rest q ≡ []) × (c.look_branch q ≡ None)
 
 pub record IsCallee (c : Ground) (q : ℕ) : Type 0 where
   pub inside : IsPart c q

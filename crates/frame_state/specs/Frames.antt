@@ -1,29 +1,30 @@
 -- What a state of the machine stands for: the rest of the search.
 use Rattle.std.specs.Prelude.{◌≡◌, ℕ, zero, suc, ◌+◌, ◌-◌, Bool, true, false, List, [], ◌∷◌, drop, length, Option}
-use Rattle.std.specs.Prelude.{Some, None, nat_le, nat_lt, nat_eq, if◌then◌else◌}
+use Rattle.std.specs.Prelude.{Some, None, nat_le, nat_lt, nat_eq, if◌then◌else◌, reverse}
 use Rattle.pat_tree.specs.declared.nodes.Item.{Item}
 use Rattle.pat_tree.specs.Nested as tree
 use Rattle.pat_tree.specs.Nested.{Nested, Row, Other}
-use Rattle.match_items.specs.Items.{one_less, item_reaches, run_places, place_before}
+use Rattle.pat_lengths.specs.Lengths.{SomeLengths}
+use Rattle.match_items.specs.Items.{one_less, item_reaches, run_places, place_before, places_back}
 use Rattle.frame_store.specs.Captures.{Captures}
 use Rattle.frame_store.specs.Entry.{Entry, LaterBranch, GroupOpen, CalledGroup, TurnOpen, TurnOrExit, LaterTurn}
 use Rattle.frame_store.specs.Entry.{FewerItems, MoreItems, AtomicOpen, LookOpen, LookAllOpen, LookTest, DenialOpen}
 use Rattle.frame_store.specs.Entry.{DenialTest, CallOpen, AtomicLeft, CommitPassed, PrunePassed, SkipPassed}
-use Rattle.frame_store.specs.Entry.{ThenPassed, entry_site}
+use Rattle.frame_store.specs.Entry.{ThenPassed, LaterTry, entry_site}
 use Rattle.frame_store.specs.Undo.{taken_back}
 use Rattle.frame_state.specs.declared.machine.Next.{Next}
-use Rattle.frame_state.specs.declared.machine.Next.TheVariants.{Enter, Branch, Offer, Begin, Fewer, More, End, Back}
-use Rattle.frame_state.specs.declared.machine.Next.TheVariants.{Accept, Act, Leave}
+use Rattle.frame_state.specs.declared.machine.Next.TheVariants.{Enter, Branch, Try, Offer, Begin, Fewer, More, End}
+use Rattle.frame_state.specs.declared.machine.Next.TheVariants.{Settle, Back, Accept, Act, Leave}
 use Rattle.frame_state.specs.declared.machine.Spot.{Spot}
 use Rattle.ordered_search.specs.Stream.{State, next_branch, prune, skip, commit, reached, accepted}
 use Rattle.ordered_search.specs.Setting.{match_limit, branch_lengths}
 use Rattle.ordered_search.specs.Parts.{back_to}
 use Rattle.ordered_search.specs.Moves.{Moves, pause, exhaust, Follow, Handler, Path, at_end, at_verbs, reaching}
 use Rattle.ordered_search.specs.Paths.{close, leave, returned, offer_paths, lazy_paths, turned, turn_path}
-use Rattle.ordered_search.specs.Paths.{choice_paths, behind_path, paths}
-use Rattle.frame_state.specs.Ground.{Ground, tree_of, BeginsBy}
+use Rattle.ordered_search.specs.Paths.{choice_paths, ends_before, tries_path, behind_path, paths}
+use Rattle.frame_state.specs.Ground.{Ground, tree_of, settles, BeginsBy}
 use Rattle.frame_state.specs.Machine.{less, Around, state_at, kept_at, link_of, entry_kept, heard, ending_of}
-use Rattle.frame_state.specs.Machine.{Outside, in_row, Conf}
+use Rattle.frame_state.specs.Machine.{Outside, place_at, in_row, Conf}
 
 -- inside a frame
 abbrev pub frame_around : Entry → Around → Around
@@ -79,9 +80,18 @@ module _ (c : Ground) where
   after d k (q ∷ qs) reached s f = paths c.setting d (tree_of c q) s (after d k qs) f (k.hand q)
   after d k (q ∷ qs) accepted s f = k.follow accepted s f
 
+  -- what is around a part with whose frame a try of a lookbehind's branch ends, or none: a try counts where it ends at
+  -- the lookbehind's place
+  abbrev pub settle : Bool → ℕ → Follow → Follow
+  settle true place k = ends_before place k
+  settle false place k = k
+
+  abbrev pub settled : Outside → ℕ → Outside
+  settled k q = record k { follow = settle (settles c q) k.place k.follow }
+
   -- what follows a part
   abbrev pub past : ℕ → Outside → ℕ → Follow
-  past d k q = after d k (c.rest q)
+  past d k q = after d (settled k q) (c.rest q)
 
   abbrev pub enter : ℕ → Outside → ℕ → State → Moves → Moves
   enter d k q s f = paths c.setting d (tree_of c q) s (past d k q) f (k.hand q)
@@ -90,6 +100,14 @@ module _ (c : Ground) where
   abbrev pub branch_rest : Nested → List ℕ → List ℕ
   branch_rest (tree.group None ts) qs = qs
   branch_rest _ qs = []
+
+  -- what follows the branches of a part
+  abbrev pub beyond_by : Nested → ℕ → Outside → ℕ → Follow
+  beyond_by (tree.group None ts) d k q = past d k q
+  beyond_by _ d k q = k.follow
+
+  abbrev pub beyond : ℕ → Outside → ℕ → Follow
+  beyond d k q = beyond_by (tree_of c q) d k q
 
   abbrev pub branch_row : Nested → Row
   branch_row (tree.group n ts) = ts
@@ -106,6 +124,17 @@ module _ (c : Ground) where
   -- the branches of a part from one of them on
   abbrev pub branch_from : Nested → ℕ → ℕ → Path
   branch_from t i d s k f h = choice_paths c.setting (drop i (in_row (branch_path t d) (branch_row t))) s k f h
+
+  -- the tries of a branch of a lookbehind of these lengths, from so many characters back down to the least
+  abbrev pub tries_from : SomeLengths → ℕ → Path → Path
+  tries_from None n p s k f h = f
+  tries_from (Some a) n p s k f h =
+      tries_path c.setting (reverse (drop a.least (places_back c.setting.scene n s.place))) p s k f h
+
+  -- the tries of a part, which is such a branch
+  abbrev pub try_from : ℕ → ℕ → ℕ → Path
+  try_from q n d s k f h =
+      tries_from (branch_lengths c.setting (tree_of c q)) n (paths c.setting d (tree_of c q)) s k f h
 
   -- a repeat after i turns
   abbrev pub offer_from : Nested → ℕ → ℕ → Path
@@ -211,7 +240,9 @@ module _ (c : Ground) where
   abbrev pub on_fail : Entry → Around → Outside → Captures → Moves → (ℕ → Moves) → Moves
   on_fail (LaterBranch at kept next) a k caps out to =
       branch_from (tree_of c at.node) next a.depth (state_at a kept caps)
-      (after a.depth k (branch_rest (tree_of c at.node) (c.rest at.node))) out (k.hand at.node)
+      (beyond a.depth k at.node) out (k.hand at.node)
+  on_fail (LaterTry at kept n) a k caps out to =
+      try_from at.node n a.depth (state_at a kept caps) k.follow out (k.hand at.node)
   on_fail (TurnOrExit at kept count) a k caps out to = past a.depth k at.node reached (state_at a kept caps) out
   on_fail (LaterTurn at kept count) a k caps out to =
       begin_from (tree_of c at.node) count a.depth (state_at a kept caps) (past a.depth k at.node) out (k.hand at.node)
@@ -242,6 +273,7 @@ module _ (c : Ground) where
         then frame_end r (around_at below (link_of r) (entry_kept r).passed)
         (record {
           follow = cont below (taken_back r caps) (link_of r);
+          place = place_at below (link_of r);
           hand = hand_in below (link_of r) (fail_to below (taken_back r caps))
               (caught below (taken_back r caps) (link_of r));
         })
@@ -256,6 +288,7 @@ module _ (c : Ground) where
         (on_fail r (around_at below (link_of r) (entry_kept r).passed)
         (record {
           follow = cont below (taken_back r caps) (link_of r);
+          place = place_at below (link_of r);
           hand = hand_in below (link_of r) (fail_to below (taken_back r caps))
               (caught below (taken_back r caps) (link_of r));
         })
@@ -272,6 +305,7 @@ module _ (c : Ground) where
         (on_fail r (around_at below (link_of r) (entry_kept r).passed)
         (record {
           follow = cont below (taken_back r caps) (link_of r);
+          place = place_at below (link_of r);
           hand = hand_in below (link_of r) (fail_to below (taken_back r caps))
               (caught below (taken_back r caps) (link_of r));
         })
@@ -288,6 +322,7 @@ module _ (c : Ground) where
         (on_fail r (around_at below (link_of r) (entry_kept r).passed)
         (record {
           follow = cont below (taken_back r caps) (link_of r);
+          place = place_at below (link_of r);
           hand = hand_in below (link_of r) (fail_to below (taken_back r caps))
               (caught below (taken_back r caps) (link_of r));
         })
@@ -300,12 +335,14 @@ module _ (c : Ground) where
 
   -- what is around the parts of the frame at a height
   abbrev pub outside : List Entry → Captures → ℕ → Outside
-  outside stack caps l = record { follow = cont stack caps l; hand = hand stack caps l }
+  outside stack caps l =
+      record { follow = cont stack caps l; place = place_at stack l; hand = hand stack caps l }
 
   abbrev pub focus : Next → ℕ → Outside → State → Moves → Moves
   focus (Enter q) d k s f = enter d k q s f
   focus (Branch q i) d k s f =
-      branch_from (tree_of c q) i d s (after d k (branch_rest (tree_of c q) (c.rest q))) f (k.hand q)
+      branch_from (tree_of c q) i d s (beyond d k q) f (k.hand q)
+  focus (Try q n) d k s f = try_from q n d s k.follow f (k.hand q)
   focus (Offer q i) d k s f = offer_from (tree_of c q) i d s (past d k q) f (k.hand q)
   focus (Begin q i exits) d k s f =
       begin_from (tree_of c q) i d s (past d k q) (if exits then past d k q reached s f else f) (k.hand q)
@@ -313,6 +350,7 @@ module _ (c : Ground) where
       offer_paths c.setting (last ∷ fewer_places least last) s (past d k q) f
   focus (More q count last) d k s f = more_from (tree_of c q) count last s (past d k q) f
   focus End d k s f = k.follow reached s f
+  focus Settle d k s f = ends_before k.place k.follow reached s f
   focus Back d k s f = f
   focus Accept d k s f = k.follow accepted s f
   focus (Act a) d k s f = pause (k.hand 0 (ending_of a))
@@ -321,12 +359,14 @@ module _ (c : Ground) where
   -- What is around two paths agrees for the parts of which the branches around them began by the part q.
   pub record Agrees (q : ℕ) (k other : Outside) : Type 0 where
     pub follow : k.follow ≡ other.follow
+    pub place : k.place ≡ other.place
     pub hand : (p : ℕ) → BeginsBy c q p → k.hand p ≡ other.hand p
 
   -- the parts of which the verbs are told where the machine goes
   abbrev pub parts_of : Next → List ℕ
   parts_of (Enter p) = p ∷ c.rest p
   parts_of (Branch p i) = p ∷ c.rest p
+  parts_of (Try p n) = p ∷ []
   parts_of (Offer p i) = p ∷ c.rest p
   parts_of (Begin p i exits) = p ∷ c.rest p
   parts_of (Fewer p least last) = p ∷ c.rest p

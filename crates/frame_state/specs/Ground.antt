@@ -1,5 +1,6 @@
 -- What a search goes over: a pattern's numbered parts and the characters of a subject.
-use Rattle.std.specs.Prelude.{◌≡◌, ℕ, suc, ◌<◌, ◌≤◌, Bool, true, List, [], ◌∷◌, All, IfSome, length, Option, Some, None}
+use Rattle.std.specs.Prelude.{◌≡◌, ℕ, suc, ◌<◌, ◌≤◌, Bool, true, false, not, ◌==◌, List, [], ◌∷◌, All, IfSome, length}
+use Rattle.std.specs.Prelude.{Option, Some, None}
 use Rattle.pat_tree.specs.declared.nodes.Item.{Item}
 use Rattle.pat_tree.specs.declared.nodes.Node.{Node}
 use Rattle.pat_tree.specs.Nested.{Nested, nest, tree_at}
@@ -7,11 +8,13 @@ use Rattle.pat_tree.specs.Rules.{asserted_by, is_test, kids_of, numbers_of, clas
 use Rattle.pat_tree.specs.Refs.{named_by}
 use Rattle.node_flow.specs.Branches.{branch_child}
 use Rattle.node_flow.specs.Followers.{first_of}
+use Rattle.node_flow.specs.LookBranches.{look_branch_child}
 use Rattle.node_flow.specs.Linked.{IsLinked}
 use Rattle.node_flow.specs.Order.{StandInTurn}
 use Rattle.match_items.specs.Items.{after_item, after_break, after_ref, place_before}
 use Rattle.ordered_search.specs.Setting.{Setting, match_limit, branch_lengths}
-use Rattle.frame_state.specs.Behind.{IsMeasured, place_back}
+use Rattle.pat_lengths.specs.Lengths.{SomeLengths}
+use Rattle.frame_state.specs.Behind.{IsFixed, IsMeasured, place_back}
 
 pub record Ground : Type 0 where
   pub setting : Setting
@@ -22,6 +25,8 @@ pub record Ground : Type 0 where
   pub rest : ℕ → List ℕ
   -- the innermost branch around a part, in its frame
   pub branch : ℕ → Option ℕ
+  -- the branch of a lookbehind around a part, in its frame
+  pub look_branch : ℕ → Option ℕ
   -- the part is one of the pattern's, its place in the pattern's order, and the place past those under it
   pub under : ℕ → Bool
   pub rank : ℕ → ℕ
@@ -37,12 +42,26 @@ tree_of c q = tree_at c.trees q
 abbrev pub next_of : Ground → ℕ → Option ℕ
 next_of c q = first_of (c.rest q)
 
+-- the lengths of a branch of a lookbehind differ
+abbrev pub differ : SomeLengths → Bool
+differ None = false
+differ (Some a) = elim a.most [ None ↦ false | Some most ↦ not (a.least == most) ]
+
+-- with the part's frame ends a try of a branch of a lookbehind, one whose lengths differ
+abbrev pub settles_by : Ground → Option ℕ → Bool
+settles_by c None = false
+settles_by c (Some b) = differ (branch_lengths c.setting (tree_of c b))
+
+abbrev pub settles : Ground → ℕ → Bool
+settles c q = settles_by c (c.look_branch q)
+
 -- the node of a part
 pub record IsNode (c : Ground) (q : ℕ) (n : Node) : Type 0 where
   pub is : nest c.trees n ≡ tree_of c q
   pub below : All (λ k. k < q) (kids_of n)
   pub linked : IsLinked c.rest (c.rest q) n
   pub branched : All (λ k. c.branch k ≡ branch_child n (c.branch q) k) (kids_of n)
+  pub looked : All (λ k. c.look_branch k ≡ look_branch_child n (c.look_branch q) k) (kids_of n)
   pub under : All (λ k. c.under k ≡ true) (kids_of n)
   pub in_turn : StandInTurn c.rank c.past (suc (c.rank q)) (kids_of n) (c.past q)
   pub spans : (k : ℕ) → c.rank k ≤ c.past k
@@ -62,13 +81,18 @@ abbrev pub StandsIf : Ground → Option ℕ → Type 0
 StandsIf c None = Unit {0}
 StandsIf c (Some p) = c.stands p ≡ true
 
--- the branches of the lookbehinds in a tree have one length each
+-- no branch of a lookbehind in a tree is refused
 abbrev pub IsMeasuredIn : Ground → Nested → Type 0
 IsMeasuredIn c t = IsMeasured (branch_lengths c.setting) t
 
 -- the branch around a part, if there is one, is a part of the pattern
 abbrev pub IsAmong : Ground → ℕ → Type 0
 IsAmong c q = IfSome (c.branch q) (λ b. (b ≤ c.root) × (c.under b ≡ true))
+
+-- the branch of a lookbehind around a part, if there is one, is a part of the tree that isn't refused
+abbrev pub IsLooked : Ground → ℕ → Type 0
+IsLooked c q = IfSome (c.look_branch q) (λ b. (b ≤ c.root) × IsFixed (branch_lengths c.setting)
+    (tree_of c b))
 
 -- a part of the pattern
 abbrev pub IsOfPattern : Ground → ℕ → Type 0
@@ -92,6 +116,9 @@ pub record IsPart (c : Ground) (q : ℕ) : Type 0 where
   pub under : c.under q ≡ true
   pub among : IsAmong c q
   pub later : StandLater c q (c.rest q)
+  -- a lookbehind's branch around it is around those that follow it
+  pub looked : IsLooked c q
+  pub looked_on : All (λ p. c.look_branch p ≡ c.look_branch q) (c.rest q)
   -- the branches around it and around those that follow it began by then
   pub begun : All (BeginsBy c q) (q ∷ c.rest q)
 
@@ -103,6 +130,7 @@ pub record IsGround (c : Ground) : Type 0 where
   pub chained : (q p : ℕ) (ps : List ℕ) → q ≤ c.root → c.rest q ≡ p ∷ ps → c.rest p ≡ ps
   pub whole_under : c.under c.root ≡ true
   pub whole_alone : c.branch c.root ≡ None
+  pub whole_unlooked : c.look_branch c.root ≡ None
   pub spans : (q : ℕ) → c.rank q ≤ c.past q
   pub few : match_limit c.setting ≤ 4294967295
   pub registers : c.setting.groups ≤ 65535

@@ -1,5 +1,5 @@
 -- A state of the machine.
-use Rattle.std.specs.Prelude.{ℕ, zero, suc, ◌-◌, List, [], ◌∷◌, length, Option, Some, None, option_map, nat_eq}
+use Rattle.std.specs.Prelude.{ℕ, zero, suc, ◌-◌, Bool, true, false, List, [], ◌∷◌, length, Option, Some, None, option_map, nat_eq}
 use Rattle.std.specs.Prelude.{if◌then◌else◌}
 use Rattle.pat_tree.specs.Nested as tree
 use Rattle.pat_tree.specs.Nested.{Nested, Row}
@@ -10,11 +10,12 @@ use Rattle.frame_store.specs.Entry.{LaterTurn, FewerItems, MoreItems, AtomicOpen
 use Rattle.frame_store.specs.Entry.{DenialOpen, DenialTest, CallOpen, AtomicLeft, MarkPassed, CommitPassed}
 use Rattle.frame_store.specs.Entry.{PrunePassed, SkipPassed, ThenPassed, LaterTry, Other, entry_site}
 use Rattle.frame_state.specs.declared.machine.Next.{Next}
-use Rattle.frame_state.specs.declared.machine.Next.TheVariants.{Enter, Branch, End, Back}
+use Rattle.frame_state.specs.declared.machine.Next.TheVariants.{Enter, Branch, End, Settle, Back}
 use Rattle.frame_state.specs.declared.machine.Spot.{Spot}
 use Rattle.frame_state.specs.declared.machine.Acting.{Acting}
 use Rattle.frame_state.specs.declared.machine.Acting.TheVariants as acting
 use Rattle.ordered_search.specs.Stream.{State, VerbEnding, prune, skip, commit}
+use Rattle.frame_state.specs.Ground.{Ground, next_of, settles}
 use Rattle.ordered_search.specs.Moves.{Follow, Handler, Path}
 
 -- a maximum after so many more
@@ -104,9 +105,16 @@ heard [] h = []
 heard (r ∷ below) h =
     if nat_eq h (suc (length below)) then heard_by r (heard below (entry_kept r).passed) else heard below h
 
--- what is around a part: what follows at the end of its frame, and what the verbs in each part of the frame lead to
+-- where the frame at a height began; 0 outside all frames
+unfoldable pub place_at : List Entry → ℕ → ℕ
+place_at [] l = 0
+place_at (r ∷ below) l = if nat_eq l (suc (length below)) then (entry_kept r).place else place_at below l
+
+-- what is around a part: what follows at the end of its frame, where the frame began, and what the verbs in each part
+-- of the frame lead to
 pub record Outside : Type 0 where
   pub follow : Follow
+  pub place : ℕ
   pub hand : ℕ → Handler
 
 -- the trees of a row under a function
@@ -140,6 +148,11 @@ first_next q (p ∷ []) = Enter p
 first_next q (p ∷ p' ∷ ps) = Branch q 0
 
 -- where the machine goes on
-abbrev pub towards : Option ℕ → Next
-towards None = End
-towards (Some q) = Enter q
+abbrev pub towards : Option ℕ → Bool → Next
+towards (Some q) ends_try = Enter q
+towards None true = Settle
+towards None false = End
+
+-- after a part
+abbrev pub onward : Ground → ℕ → Next
+onward c q = towards (next_of c q) (settles c q)

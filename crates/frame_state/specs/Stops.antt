@@ -25,9 +25,9 @@ use Rattle.ordered_search.specs.Moves.{Moves, tread}
 use Rattle.ordered_search.specs.PlaceAnswer.{Walked, PlaceAnswer, Failed, Exhausted, Partial, Matched, MatchLimit}
 use Rattle.ordered_search.specs.PlaceAnswer.{FrameLimit, Loop, answers, Outcome, Abort, last_name, has_hit, blocks}
 use Rattle.ordered_search.specs.PlaceAnswer.{at_verb}
-use Rattle.frame_state.specs.Ground.{Ground, next_of}
+use Rattle.frame_state.specs.Ground.{Ground}
 use Rattle.match_items.specs.Views.{end_of}
-use Rattle.frame_state.specs.Machine.{mark_of, kept_at, ending_of, less, towards}
+use Rattle.frame_state.specs.Machine.{mark_of, kept_at, ending_of, less, onward}
 
 -- what a match gives
 abbrev pub spot_outcome : Spot → Captures → Outcome
@@ -137,7 +137,7 @@ referred c place (Some span) caseless = after_ref c.setting.scene span.from span
 
 -- where a simple assertion leads that holds or not
 abbrev pub held_next : Ground → ℕ → Bool → Next
-held_next c q true = towards (next_of c q)
+held_next c q true = onward c q
 held_next c q false = Back
 
 abbrev pub held_early : Ground → AnchorKind → Spot → Bool → Spot
@@ -146,7 +146,7 @@ held_early c kind spot false = spot
 
 -- where a sequence begins
 abbrev pub part_next : Ground → ℕ → List ℕ → Next
-part_next c q [] = towards (next_of c q)
+part_next c q [] = onward c q
 part_next c q (p ∷ ps) = Enter p
 
 -- where a repeat of one item leads
@@ -195,7 +195,7 @@ turn_entry spot q count false = TurnOpen (record { node = q; link = spot.frame }
 
 abbrev pub moved_next : Ground → ℕ → Option ℕ → Next
 moved_next c q None = Back
-moved_next c q (Some p) = towards (next_of c q)
+moved_next c q (Some p) = onward c q
 
 abbrev pub moved_spot : Spot → Option ℕ → Spot
 moved_spot spot None = spot

@@ -1,20 +1,24 @@
 -- What holds of each state of the machine, and what a turn of its loop does.
-use Rattle.std.specs.Prelude.{◌≡◌, ℕ, ◌-◌, ◌<◌, ◌≤◌, true, false, List, [], ◌∷◌, length, All, Option, Some, None}
+use Rattle.std.specs.Prelude.{◌≡◌, ℕ, suc, ◌-◌, ◌<◌, ◌≤◌, ◌==◌, true, false, List, [], ◌∷◌, length, All, Option, Some, None}
 use Rattle.pat_tree.specs.Nested as tree
 use Rattle.pat_tree.specs.Nested.{Nested}
-use Rattle.match_items.specs.Items.{is_none_left}
+use Rattle.match_items.specs.Items.{is_none_left, places_back}
+use Rattle.pat_lengths.specs.declared.backs.Back.{Back as Lengths}
+use Rattle.pat_lengths.specs.Backs.{lengths_back}
 use Rattle.frame_store.specs.declared.registers.Span.{Span}
 use Rattle.frame_store.specs.Captures.{Captures}
 use Rattle.frame_store.specs.Entry.{Kept, Entry, Undo, LaterBranch, GroupOpen, CalledGroup, TurnOpen, TurnOrExit}
 use Rattle.frame_store.specs.Entry.{LaterTurn, FewerItems, MoreItems, LookTest, DenialTest, CallOpen, AtomicLeft}
-use Rattle.frame_store.specs.Entry.{SkipPassed, Other, entry_site}
+use Rattle.frame_store.specs.Entry.{SkipPassed, LaterTry, Other, entry_site}
 use Rattle.frame_state.specs.declared.machine.Next.{Next}
-use Rattle.frame_state.specs.declared.machine.Next.TheVariants.{Enter, Branch, Offer, Begin, Fewer, More, End, Back}
-use Rattle.frame_state.specs.declared.machine.Next.TheVariants.{Accept, Act, Leave}
+use Rattle.frame_state.specs.declared.machine.Next.TheVariants.{Enter, Branch, Try, Offer, Begin, Fewer, More, End}
+use Rattle.frame_state.specs.declared.machine.Next.TheVariants.{Settle, Back, Accept, Act, Leave}
 use Rattle.frame_state.specs.declared.machine.Spot.{Spot}
 use Rattle.ordered_search.specs.Moves.{size}
+use Rattle.ordered_search.specs.Setting.{branch_lengths}
+use Rattle.frame_state.specs.Begun.{is_behind, IsFixedPart}
 use Rattle.frame_state.specs.Ground.{Ground, tree_of, IsPart}
-use Rattle.frame_state.specs.Machine.{less, Around, kept_at, link_of, entry_kept, row_length, Conf}
+use Rattle.frame_state.specs.Machine.{less, Around, kept_at, link_of, entry_kept, place_at, row_length, Conf}
 use Rattle.frame_state.specs.Frames.{branch_row, around, ahead}
 use Rattle.frame_state.specs.Stops.{ActsAt, tells}
 
@@ -42,6 +46,24 @@ module _ (c : Ground) where
 
   abbrev pub HasBranch : Nested → ℕ → Type 0
   HasBranch t i = (i < row_length (branch_row c t)) × (1 < row_length (branch_row c t))
+
+  -- the branches of a lookbehind are tried at the place of its frame
+  abbrev pub HasBranchAt : (part i place : ℕ) → (stack : List Entry) → (frame : ℕ) → Type 0
+  HasBranchAt q i place stack frame =
+      HasBranch (tree_of c q) i × (is_behind (tree_of c q) ≡ true → place ≡ place_at stack frame)
+
+  -- A branch of a lookbehind whose lengths differ is tried so many characters before a place, where its frame began.
+  pub record IsTried (q n place at : ℕ) : Type 0 where
+    pub fixed : IsFixedPart c q
+    pub own : c.look_branch q ≡ Some q
+    pub alone : c.rest q ≡ []
+    pub back : Lengths
+    pub lengths : branch_lengths c.setting (tree_of c q) ≡ lengths_back back
+    pub differ : (back.least == back.most) ≡ false
+    pub least : back.least ≤ n
+    -- so many characters stand before
+    pub room : length (places_back c.setting.scene n place) ≡ suc n
+    pub framed : place ≡ at
 
   abbrev pub IsRepeat : Nested → Type 0
   IsRepeat (tree.repeat body low high lazily) = Unit {0}
@@ -74,7 +96,8 @@ module _ (c : Ground) where
 
   -- What holds of a record's own values.
   abbrev pub Suits : List Entry → Entry → Type 0
-  Suits below (LaterBranch at kept next) = HasBranch (tree_of c at.node) next
+  Suits below (LaterBranch at kept next) = HasBranchAt at.node next kept.place below at.link
+  Suits below (LaterTry at kept n) = IsTried at.node n kept.place (place_at below at.link)
   Suits below (GroupOpen at kept) = IsCapture (tree_of c at.node)
   Suits below (TurnOpen at kept count) = IsRepeat (tree_of c at.node)
   Suits below (TurnOrExit at kept count) = IsRepeat (tree_of c at.node)
@@ -120,8 +143,13 @@ module _ (c : Ground) where
   IsRunning spot stack (Enter q) =
       IsPart c q × StandsAt spot stack (around c stack spot.frame).depth × IsLater spot.frame q stack
   IsRunning spot stack (Branch q i) =
-      IsPart c q × StandsAt spot stack (around c stack spot.frame).depth × HasBranch (tree_of c q) i × IsLater
-      spot.frame q stack
+      IsPart c q × StandsAt spot stack (around c stack spot.frame).depth
+      × HasBranchAt q i spot.place stack spot.frame
+      × IsLater spot.frame q stack
+  IsRunning spot stack (Try q n) =
+      IsPart c q × StandsAt spot stack (around c stack spot.frame).depth
+      × IsTried q n spot.place (place_at stack spot.frame)
+      × IsLater spot.frame q stack
   IsRunning spot stack (Offer q i) =
       IsPart c q × StandsAt spot stack ((around c stack spot.frame).depth - i) × IsRepeat (tree_of c q) × IsLater
       spot.frame q stack
@@ -136,6 +164,7 @@ module _ (c : Ground) where
       × IsMany (tree_of c q)
       × IsLater spot.frame q stack
   IsRunning spot stack End = StandsAt spot stack (around c stack spot.frame).depth
+  IsRunning spot stack Settle = StandsAt spot stack (around c stack spot.frame).depth
   IsRunning spot stack Back = Unit {0}
   IsRunning spot stack Accept = StandsAt spot stack (around c stack spot.frame).depth
   IsRunning spot stack (Act a) = StandsAt spot stack (around c stack spot.frame).depth × ActsAt c a

@@ -1,8 +1,8 @@
 //! Where the branches of a part begin: those of a lookbehind at earlier places (pcre2pattern, "Lookbehind assertions").
-ghost use Rattle.std.specs.Prelude.{◌≡◌, All, true};
+ghost use Rattle.std.specs.Prelude.{◌≡◌, All, true, option_map};
 ghost use Rattle.frame_state.specs.Ground.{IsPart, tree_of};
 ghost use Rattle.frame_state.specs.Begun.{is_behind, IsFixedPart, begun_place, begun_next, begun_spot, first_begun};
-ghost use Rattle.frame_state.specs.Begun.{first_spot};
+ghost use Rattle.frame_state.specs.Begun.{first_spot, placed};
 
 use crate::machine::{Next, Spot};
 use crate::searchable::Searchable;
@@ -19,7 +19,8 @@ pub fn is_behind<S: Searchable>(on: &S, part: u32) -> bool
     }
 }
 
-/// Begins a branch. One of a lookbehind begins so many characters before the place as it is long, if there are so many.
+/// Begins a branch. One of a lookbehind begins so many characters before the place as it is long, if there are so many;
+/// where its lengths differ, it is tried from the greatest for which so many stand before.
 pub fn begin_branch<S: Searchable>(on: &S, behind: bool, branch: u32, spot: &mut Spot) -> Next
     requires inside { IsPart (S.searched on.now) branch }
     requires fixed { behind ≡ true → IsFixedPart (S.searched on.now) branch }
@@ -32,8 +33,22 @@ pub fn begin_branch<S: Searchable>(on: &S, behind: bool, branch: u32, spot: &mut
     if !behind {
         return Next::Enter(branch);
     }
-    let count = on.back(branch).most;
-    let to = on.step_back(spot.place, count);
+    let back = on.back(branch);
+    if back.least == back.most {
+        return begin_back(branch, on.step_back(spot.place, back.most), spot);
+    }
+    let room = on.room_before(spot.place, back.most);
+    if room < back.least {
+        return Next::Back;
+    }
+    Next::Try(branch, room)
+}
+
+/// Begins a branch at a place before, if there is one.
+pub fn begin_back(branch: u32, to: Option<u64>, spot: &mut Spot) -> Next
+    ensures next { result ≡ begun_next true (option_map placed to) branch }
+    ensures spot { spot.new ≡ begun_spot true (option_map placed to) spot.old }
+{
     match to {
         None => Next::Back,
         Some(place) => {

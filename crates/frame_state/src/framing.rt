@@ -3,8 +3,8 @@ ghost use Rattle.std.specs.Prelude.{◌≡◌, ◌≤◌, ◌<◌, ◌+◌, ◌�
 ghost use Rattle.frame_store.specs.Stack.{room};
 ghost use Rattle.frame_state.specs.Room.{IsShort};
 ghost use Rattle.frame_store.specs.Captures.{HasGroup};
-ghost use Rattle.frame_state.specs.Ground.{next_of, IsPart};
-ghost use Rattle.frame_state.specs.Machine.{towards, first_next, first_set};
+ghost use Rattle.frame_state.specs.Ground.{IsPart};
+ghost use Rattle.frame_state.specs.Machine.{onward, first_next, first_set};
 ghost use Rattle.frame_state.specs.Stops.{IsHeldStop, record_at};
 
 use crate::machine::{Next, Spot, Stop, hold};
@@ -81,10 +81,15 @@ pub fn leave(
 /// Where the path goes on after a part.
 pub fn go_on<S: Searchable>(on: &S, part: u32) -> Next
     requires { IsPart (S.searched on.now) part }
-    ensures { result ≡ towards (next_of (S.searched on.now) part) }
+    ensures { result ≡ onward (S.searched on.now) part }
 {
     match on.next(part) {
-        None => Next::End,
+        None => {
+            if on.settles(part) {
+                return Next::Settle;
+            }
+            Next::End
+        }
         Some(next) => Next::Enter(next),
     }
 }

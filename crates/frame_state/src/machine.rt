@@ -14,6 +14,8 @@ pub enum Next {
     Enter(u32),
     /// Try this branch of a group, counted from 0, and then those after it.
     Branch(u32, u32),
+    /// Try this branch of a lookbehind from so many characters back, and then those fewer, down to its least length.
+    Try(u32, u32),
     /// Offer a further turn of this repeat, and its exit, after so many turns.
     Offer(u32, u32),
     /// Begin a further turn of this repeat after so many turns. The exit is left to try where it is set.
@@ -24,6 +26,8 @@ pub enum Next {
     More(u32, u32, u64),
     /// The innermost frame, or the pattern, has ended.
     End,
+    /// The frame of a lookbehind has ended with a try of a branch, which counts where it ends at the lookbehind's place.
+    Settle,
     /// Go back to the newest record.
     Back,
     /// ACCEPT has ended the innermost frame, or the pattern.

@@ -1,16 +1,16 @@
 //! What a search goes over.
-ghost use Rattle.std.specs.Prelude.{◌≡◌, ◌<◌, ◌≤◌, ◌&&◌, true, All, length};
+ghost use Rattle.std.specs.Prelude.{◌≡◌, ◌+◌, ◌<◌, ◌≤◌, ◌&&◌, true, All, length};
 ghost use Rattle.pat_tree.specs.Rules.{class_in};
 ghost use Rattle.match_items.specs.Items as items;
 ghost use Rattle.match_items.specs.Items.{after_item, after_break, after_ref, longest_run, run_reaches, place_before};
-ghost use Rattle.match_items.specs.Items.{holds, earliest};
+ghost use Rattle.match_items.specs.Items.{holds, earliest, places_back};
 ghost use Rattle.match_items.specs.Views.{end_of};
 ghost use Rattle.pat_lengths.specs.Backs.{lengths_back};
 ghost use Rattle.ordered_search.specs.Parts.{same_text};
 ghost use Rattle.ordered_search.specs.Setting.{match_limit, branch_lengths, verb_name};
 ghost use Rattle.ordered_search.specs.Places.{is_off};
 ghost use Rattle.frame_state.specs.Reach.{asks, counts_from};
-ghost use Rattle.frame_state.specs.Ground.{Ground, IsPart, IsNode, IsGround, next_of, tree_of};
+ghost use Rattle.frame_state.specs.Ground.{Ground, IsPart, IsNode, IsGround, next_of, settles, tree_of};
 ghost use Rattle.frame_state.specs.Behind.{place_back};
 ghost use Rattle.frame_state.specs.Begun.{IsFixedPart};
 ghost use Rattle.frame_state.specs.Calls.{IsCalled};
@@ -50,6 +50,11 @@ pub trait Searchable {
     fn branch(&self, part: u32) -> Option<u32>
         requires { IsPart (searched self.now) part }
         ensures { result ≡ (searched self.now).branch part };
+
+    /// Whether a try of a branch of a lookbehind, one whose lengths differ, ends with the part's frame.
+    fn settles(&self, part: u32) -> bool
+        requires { IsPart (searched self.now) part }
+        ensures { result ≡ settles (searched self.now) part };
 
     /// The place of a part in the pattern: it stands before the parts under it, and these before those that follow it.
     fn rank(&self, part: u32) -> u32
@@ -148,6 +153,11 @@ pub trait Searchable {
     fn step_back(&self, at: u64, count: u32) -> Option<u64>
         requires { (searched self.now).stands at ≡ true }
         ensures { result ≡ place_back (searched self.now).setting.scene count at };
+
+    /// How many characters stand before a place, this number of them at most.
+    fn room_before(&self, at: u64, most: u32) -> u32
+        requires { (searched self.now).stands at ≡ true }
+        ensures { result + 1 ≡ length (places_back (searched self.now).setting.scene most at) };
 
     /// The least and the greatest length of a branch of a lookbehind, in characters.
     fn back(&self, branch: u32) -> Back

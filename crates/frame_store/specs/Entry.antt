@@ -62,7 +62,7 @@ pub data Entry : Type 0 where
   PrunePassed : Site → Kept → (height : ℕ) → Entry
   SkipPassed : Site → Kept → (height next : ℕ) → Entry
   ThenPassed : Site → Kept → Entry
-  -- a branch of a lookbehind began, and the tries from so many more characters back than its least length are left
+  -- a branch of a lookbehind began, and the tries from so many characters back down to its least length are left
   LaterTry : Site → Kept → (left : ℕ) → Entry
   -- nothing is left to try
   Other : Site → Entry

@@ -59,6 +59,6 @@ pub const KIND_PRUNE_PASSED: u8 = 19;
 pub const KIND_SKIP_PASSED: u8 = 20;
 /// THEN was passed in the branch `node`. Where the path fails, that branch has failed.
 pub const KIND_THEN_PASSED: u8 = 21;
-/// A branch of a lookbehind at `place` began. It can still begin nearer to `place`: first `count` more characters before
-/// it than the branch's least length.
+/// A branch of a lookbehind at `place` began. It can still begin nearer to `place`: first `count` characters before it,
+/// and then fewer, down to the branch's least length.
 pub const KIND_LATER_TRY: u8 = 22;

@@ -19,8 +19,8 @@ use Rattle.ordered_search.specs.Moves.{Moves, pause, holding, Follow, Handler}
 use Rattle.ordered_search.specs.Paths.{ended}
 use Rattle.frame_state.specs.declared.machine.Next.TheVariants.{Enter}
 use Rattle.frame_state.specs.declared.machine.Spot.{Spot}
-use Rattle.frame_state.specs.Ground.{Ground, next_of, IsNode, IsGround}
-use Rattle.frame_state.specs.Machine.{conf, kept_at, entry_kept, heard_by, heard, towards}
+use Rattle.frame_state.specs.Ground.{Ground, IsNode, IsGround}
+use Rattle.frame_state.specs.Machine.{conf, kept_at, entry_kept, heard_by, heard, onward}
 use Rattle.frame_state.specs.Frames.{past, around, outside, hand, fail, spot_state, ahead}
 use Rattle.frame_state.specs.Validity.{IsSound, AreSound, IsValid, Advances}
 use Rattle.frame_state.specs.Stops.{told, tells, held_spot}
@@ -199,7 +199,7 @@ module _ (c : Ground) (ok : IsGround c) (q : ℕ) (spot : Spot) (stack : List En
     pub turn_skip_to : (found : Option ℕ) → skip_by found ≡ skip_to c.setting n (heard stack spot.passed)
         → spot.units < c.setting.matching.frame_limit →
         Advances c (conf (Enter q) spot stack caps)
-        (conf (towards (next_of c q)) (held_spot spot) (skip_entry spot q found ∷ stack) caps)
+        (conf (onward c q) (held_spot spot) (skip_entry spot q found ∷ stack) caps)
     unfolding fail
     turn_skip_to None is room =
         turn_acting c ok q spot stack caps v (skip_entry spot q None) (fail c stack caps) refl refl refl

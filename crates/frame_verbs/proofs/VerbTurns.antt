@@ -25,14 +25,14 @@ use Rattle.frame_state.specs.declared.machine.Met.{Met}
 use Rattle.frame_state.specs.declared.machine.Spot.{Spot}
 use Rattle.frame_state.specs.declared.machine.Stop.{Stop}
 use Rattle.frame_state.specs.declared.machine.Stop.TheVariants as stop
-use Rattle.frame_state.specs.Ground.{Ground, next_of, BeginsBy, IsNode, IsGround}
-use Rattle.frame_state.specs.Machine.{Around, Conf, conf, kept_at, state_at, mark_of, link_of, towards}
+use Rattle.frame_state.specs.Ground.{Ground, BeginsBy, IsNode, IsGround}
+use Rattle.frame_state.specs.Machine.{Around, Conf, conf, kept_at, state_at, mark_of, link_of, onward}
 use Rattle.frame_state.specs.Frames.{past, around, around_at, outside, hand, fail, focus, spot_state, ahead, parts_of}
 use Rattle.frame_state.specs.Validity.{IsContained, IsLater, IsStanding, IsSound, IsRunning, IsValid, Advances}
 use Rattle.frame_state.specs.Stops.{Told, told, tells, IsStop, IsHeldStop, held_spot, record_at}
 use Rattle.frame_verbs.specs.Acting.{Leaves, IsActing}
 use Rattle.frame_verbs.specs.Names.{met, named_last, named_entry, named_spot}
-use Rattle.frame_state.proofs.PartPaths.{enter_verb, after_accepted}
+use Rattle.frame_state.proofs.PartPaths.{enter_verb, past_accepted}
 use Rattle.frame_state.proofs.Frames.{around_push, focus_kept, focus_named, focus_towards, running_towards}
 use Rattle.frame_state.proofs.Frames.{begun_towards, later_push, contained_push}
 use Rattle.frame_state.proofs.Advance.{holding_room, holding_full, advance_pause, over_units, goes_back}
@@ -254,14 +254,14 @@ module _ (c : Ground) (ok : IsGround c) (q : ℕ) (spot : Spot) (stack : List En
   pub turn_mark : (o : Option ℕ) → IsNode c q (node.VerbNode (verb.Mark o))
       → spot.units < c.setting.matching.frame_limit →
       Advances c (conf (Enter q) spot stack caps)
-      (conf (towards (next_of c q)) (named_spot spot (length stack) o) (named_entry spot q o ∷ stack) caps)
+      (conf (onward c q) (named_spot spot (length stack) o) (named_entry spot q o ∷ stack) caps)
   turn_mark None i room =
-      turn_unnamed (towards (next_of c q)) (λ o room'. running_towards c ok q v.running.0
+      turn_unnamed (onward c q) (λ o room'. running_towards c ok q v.running.0
       (named_spot spot (length stack) o) (named_entry spot q o ∷ stack) (named_later o)
       (named_standing o room')) (begun_towards c ok q v.running.0) (K reached)
       (λ u m. focus_towards c ok q v.running.0 _ _ u m) room (at_verb (verb.Mark None) i)
   turn_mark (Some n) i room =
-      turn_named (towards (next_of c q)) (λ o room'. running_towards c ok q v.running.0
+      turn_named (onward c q) (λ o room'. running_towards c ok q v.running.0
       (named_spot spot (length stack) o) (named_entry spot q o ∷ stack) (named_later o)
       (named_standing o room')) (begun_towards c ok q v.running.0) (K reached)
       (λ u m. focus_towards c ok q v.running.0 _ _ u m) n room (at_verb (verb.Mark (Some n)) i)
@@ -280,7 +280,7 @@ module _ (c : Ground) (ok : IsGround c) (q : ℕ) (spot : Spot) (stack : List En
 
   accepts : (u : State) (m : Moves) → focus c Accept (around c stack spot.frame).depth
       (outside c stack caps spot.frame) u m ≡ K accepted u m
-  accepts u m = sym (after_accepted c (around c stack spot.frame).depth (outside c stack caps spot.frame) (c.rest q) u
+  accepts u m = sym (past_accepted c (around c stack spot.frame).depth (outside c stack caps spot.frame) q u
       m)
 
   pub turn_accept : IsNode c q (node.VerbNode (verb.Accept None))
@@ -356,8 +356,8 @@ module _ (c : Ground) (ok : IsGround c) (q : ℕ) (spot : Spot) (stack : List En
     acting_later : IsLater c spot.frame q (r ∷ stack)
     acting_later = later_push c spot.frame q r stack (omega (arith, ap c.rank at_node)) v.running.2
 
-    acting_begun : All (BeginsBy c (entry_site r).node) (parts_of c (towards (next_of c q)))
-    acting_begun = subst (λ x. All (BeginsBy c x) (parts_of c (towards (next_of c q)))) (sym at_node)
+    acting_begun : All (BeginsBy c (entry_site r).node) (parts_of c (onward c q))
+    acting_begun = subst (λ x. All (BeginsBy c x) (parts_of c (onward c q))) (sym at_node)
         (begun_towards c ok q v.running.0)
 
     acting_standing : (to : Spot) → to.frame ≡ spot.frame → to.left ≡ spot.left → to.place ≡ spot.place
@@ -383,14 +383,14 @@ module _ (c : Ground) (ok : IsGround c) (q : ℕ) (spot : Spot) (stack : List En
         }
 
     -- what goes on with the path as it is kept
-    acting_ahead : (kept : Kept) → focus c (towards (next_of c q)) (around c (r ∷ stack) spot.frame).depth
+    acting_ahead : (kept : Kept) → focus c (onward c q) (around c (r ∷ stack) spot.frame).depth
         (outside c (r ∷ stack) caps spot.frame) (state_at (around_at c (r ∷ stack) spot.frame spot.passed) kept caps)
         (fail c (r ∷ stack) caps)
         ≡ K reached (state_at (around_at c stack spot.frame spot.passed) kept caps) (pause (pause z))
     acting_ahead kept =
         let w = v.running.1 in
         let t : State = state_at (around_at c stack spot.frame spot.passed) kept caps in
-        focus_kept c r stack caps (towards (next_of c q)) spot.frame spot.passed kept caps (fail c (r ∷ stack) caps)
+        focus_kept c r stack caps (onward c q) spot.frame spot.passed kept caps (fail c (r ∷ stack) caps)
         w.inside w.marked at_link acting_begun
         ∙ focus_towards c ok q v.running.0 _ _ _ _
         ∙ ap (λ (x : Captures). past c (around c stack spot.frame).depth (outside c stack x spot.frame) q reached t
@@ -400,7 +400,7 @@ module _ (c : Ground) (ok : IsGround c) (q : ℕ) (spot : Spot) (stack : List En
     pub turn_acting : spot.units < c.setting.matching.frame_limit →
         ahead c (conf (Enter q) spot stack caps) ≡ pause (holding c.setting 1 s (λ t. K reached t (pause (pause z)))) →
         Advances c (conf (Enter q) spot stack caps)
-        (conf (towards (next_of c q)) (record spot { units = spot.units + 1 }) (r ∷ stack) caps)
+        (conf (onward c q) (record spot { units = spot.units + 1 }) (r ∷ stack) caps)
     turn_acting room x =
         let to : Spot = record spot { units = spot.units + 1 } in
         advance_pause c _ _ _
@@ -418,7 +418,7 @@ module _ (c : Ground) (ok : IsGround c) (q : ℕ) (spot : Spot) (stack : List En
         ahead c (conf (Enter q) spot stack caps) ≡ pause
         (noted (name n) (holding c.setting 1 (record s { mark = Some n }) (λ t. K reached t (pause (pause z))))) →
         Advances c (conf (Enter q) spot stack caps)
-        (conf (towards (next_of c q)) (record spot {
+        (conf (onward c q) (record spot {
           mark = n + 1;
           last = record spot.last { name = n + 1 };
           units = spot.units + 1;
@@ -463,7 +463,7 @@ module _ (c : Ground) (ok : IsGround c) (q : ℕ) (spot : Spot) (stack : List En
   turn_commit : (o : Option ℕ) → IsNode c q (node.VerbNode (verb.Commit o))
       → spot.units < c.setting.matching.frame_limit →
       Advances c (conf (Enter q) spot stack caps)
-      (conf (towards (next_of c q)) (held_spot (met spot o)) (CommitPassed site (kept_at (met spot o)) 0 ∷ stack)
+      (conf (onward c q) (held_spot (met spot o)) (CommitPassed site (kept_at (met spot o)) 0 ∷ stack)
       caps)
   unfolding fail
   turn_commit None i room = turn_acting (CommitPassed site (kept_at spot) 0) (hand c stack caps spot.frame q commit)
@@ -475,7 +475,7 @@ module _ (c : Ground) (ok : IsGround c) (q : ℕ) (spot : Spot) (stack : List En
   turn_prune : (o : Option ℕ) → IsNode c q (node.VerbNode (verb.Prune o))
       → spot.units < c.setting.matching.frame_limit →
       Advances c (conf (Enter q) spot stack caps)
-      (conf (towards (next_of c q)) (held_spot (met spot o)) (PrunePassed site (kept_at (met spot o)) 0 ∷ stack)
+      (conf (onward c q) (held_spot (met spot o)) (PrunePassed site (kept_at (met spot o)) 0 ∷ stack)
       caps)
   unfolding fail
   turn_prune None i room = turn_acting (PrunePassed site (kept_at spot) 0) (hand c stack caps spot.frame q prune) refl
@@ -486,7 +486,7 @@ module _ (c : Ground) (ok : IsGround c) (q : ℕ) (spot : Spot) (stack : List En
 
   turn_then : (o : Option ℕ) → IsNode c q (node.VerbNode (verb.Then o)) → spot.units < c.setting.matching.frame_limit →
       Advances c (conf (Enter q) spot stack caps)
-      (conf (towards (next_of c q)) (held_spot (met spot o)) (ThenPassed site (kept_at (met spot o)) ∷ stack)
+      (conf (onward c q) (held_spot (met spot o)) (ThenPassed site (kept_at (met spot o)) ∷ stack)
       caps)
   unfolding fail
   turn_then None i room = turn_acting (ThenPassed site (kept_at spot)) (hand c stack caps spot.frame q next_branch)
@@ -497,7 +497,7 @@ module _ (c : Ground) (ok : IsGround c) (q : ℕ) (spot : Spot) (stack : List En
 
   turn_skip : IsNode c q (node.VerbNode (verb.Skip None)) → spot.units < c.setting.matching.frame_limit →
       Advances c (conf (Enter q) spot stack caps)
-      (conf (towards (next_of c q)) (held_spot spot) (SkipPassed site (kept_at spot) 0 spot.place ∷ stack) caps)
+      (conf (onward c q) (held_spot spot) (SkipPassed site (kept_at spot) 0 spot.place ∷ stack) caps)
   unfolding fail
   turn_skip i room = turn_acting (SkipPassed site (kept_at spot) 0 spot.place)
       (hand c stack caps spot.frame q (skip spot.place)) refl refl refl
@@ -570,12 +570,12 @@ module _ (c : Ground) (ok : IsGround c) (q : ℕ) (spot : Spot) (stack : List En
   abbrev Goes : ℕ × Option ℕ × ℕ → Type 0
   Goes x =
       Advances c (conf (Enter q) spot stack caps)
-      (conf (towards (next_of c q)) (held_spot (met spot x.1))
+      (conf (onward c q) (held_spot (met spot x.1))
       (entry_of (record_at (met spot x.1) x.0 q 0 0 x.2) ∷ stack) caps)
 
   abbrev goes_with : Option ℕ → Entry → Type 0
   goes_with o r = Advances c (conf (Enter q) spot stack caps)
-      (conf (towards (next_of c q)) (held_spot (met spot o)) (r ∷ stack) caps)
+      (conf (onward c q) (held_spot (met spot o)) (r ∷ stack) caps)
 
   leaves_turn : (x : Verb) (left : ℕ × Option ℕ × ℕ) → IsNode c q (node.VerbNode x) → Leaves x spot.place left
       → spot.units < c.setting.matching.frame_limit → Goes left

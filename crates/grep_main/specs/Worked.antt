@@ -58,7 +58,7 @@ pub record WorkedRows : Type 0 where
       ≡ outcome "" "pcre2grep: pattern 1: error 114 at offset 2: missing closing parenthesis\n" 2
   pub looked_behind : over "ab\ncb\n" ("-o" ∷ "(?<=a|xy)b" ∷ []) ≡ outcome "b\n" "" 0
   pub refused_behind : over "" ("x(?<=(?<=a+)b)c" ∷ [])
-      ≡ outcome "" "pcre2grep: pattern 1: error 125 at offset 5: lookbehind is not fixed length\n" 2
+      ≡ outcome "" "pcre2grep: pattern 1: error 125 at offset 5: lookbehind length is not limited\n" 2
   pub too_long : over "ab\nabcde\nb\n" ("--max-buffer-size=4" ∷ "b" ∷ []) ≡ outcome "ab\n"
       "pcre2grep: (standard input): line 2 is too long\n" 2
   pub included : over_files tree_files ("-r" ∷ "--include=\\.c$" ∷ "x" ∷ "d" ∷ [])

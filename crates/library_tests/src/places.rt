@@ -402,26 +402,23 @@ fn patterns_are_refused_at_their_faults(rt: HostRuntime) -> Result<(), Fail> {
 
 #[test]
 fn lookbehinds_are_refused_at_their_parentheses(rt: HostRuntime) -> Result<(), Fail> {
-    static ROWS: [Refusal; 22] = [
+    static ROWS: [Refusal; 19] = [
         (b"(?<=(?1))(a+)", 125, 0),
         (b"a(?<!(?1))b(c|dd)", 125, 1),
         (b"(a)(?1)\\1(?<=b+)c", 125, 9),
         (b"(?<=a+)b", 125, 0),
         (b"(?<=ab|c*)d", 125, 0),
-        (b"(?<=a|b{2}|c?)d", 125, 0),
         (b"(?<*a|b+)c", 125, 0),
-        (b"(?<=\\R)a", 125, 0),
-        (b"a(?<!b|\\R)c", 125, 1),
-        (b"(?<=(a|bc))d", 125, 0),
-        (b"(?<=(?>a|bc))d", 125, 0),
         (b"(a+)(?<=\\1)b", 125, 4),
         (b"(?<=a)(?<!b+)c", 125, 6),
         (b"(?<=(?<=a+)b)c", 125, 4),
         (b"(?<=(?<!a+)b)c", 125, 4),
-        (b"(?=(?<=a{2,3}))b", 125, 3),
         (b"(?<=a{65535}b)c", 187, 0),
         (b"(?<=a{65535}b|c+)d", 187, 0),
         (b"(?<=a{65535}|b+)c", 125, 0),
+        (b"(?<=a{1,256})b", 187, 0),
+        (b"(?<=a{2,300}|b+)c", 187, 0),
+        (b"(?<=b+|a{2,300})c", 125, 0),
         (b"(?<=a+)b(", 114, 9),
         (b"(?<=(a*))b)", 122, 10),
         (b"(?<=", 114, 4),
@@ -433,7 +430,7 @@ fn lookbehinds_are_refused_at_their_parentheses(rt: HostRuntime) -> Result<(), F
 #[test]
 fn the_leftmost_lookbehind_is_told_last(rt: HostRuntime) -> Result<(), Fail> {
     static ROWS: [Refusal; 4] = [
-        (b"a(*nlb:b?)c", 125, 1),
+        (b"a(*nlb:b*)c", 125, 1),
         (b"(?<=(?<=b{1,2})a+)c", 125, 0),
         (b"(?<=(?<!b*)a|c+)d", 125, 0),
         (b"(?<=(a*))b\\2", 115, 10),

@@ -191,6 +191,58 @@ fn a_lookbehind_begins_before_its_place(rt: HostRuntime) -> Result<(), Fail> {
     cases(&rt, rt.alloc(), A_LOOKBEHIND_BEGINS_BEFORE_ITS_PLACE)
 }
 
+const A_LOOKBEHIND_IS_TRIED_BY_ITS_LENGTHS: &[Row] = &[
+    (
+        b"aa(?<=a{1,2})b",
+        b"aab",
+        found!(0, 3),
+        &[Steps(2), Units(4)],
+    ),
+    (
+        b"aa(?<=a{1,2})b",
+        b"aab",
+        PlaceAnswer::MatchLimit,
+        &[Steps(1)],
+    ),
+    (
+        b"aa(?<=a{1,2})b",
+        b"aab",
+        PlaceAnswer::FrameLimit,
+        &[Units(3)],
+    ),
+    (
+        b"aaa(?<=(a{1,3}?))b",
+        b"aaab",
+        found!(0, 4),
+        &[Captured(0, 3)],
+    ),
+    (b"ab(?<=ab?|c)d", b"abd", found!(0, 3), &[]),
+    (b"aa(?<=(a{1,2}?)(*THEN)|(a))c", b"aac", found!(0, 3), &[]),
+    (b"c(?<=a{1,2}|c)b", b"cb", found!(0, 2), &[Steps(3)]),
+    (
+        b"c(?<=a{1,2}|c)b",
+        b"cb",
+        PlaceAnswer::MatchLimit,
+        &[Steps(2)],
+    ),
+    (b"(?<=a?)b", b"b", found!(0, 1), &[]),
+    (b"(?<=a{1,2})b", b"b", FAILED, &[Steps(0)]),
+    (b"ab(?<!a?b)c", b"abc", FAILED, &[]),
+    (b"axx(?<=a.{0,2})b", b"axxb", found!(0, 4), &[]),
+    (b"axxx(?<=a.{0,2})b", b"axxxb", FAILED, &[]),
+    (b"xab(?<=(?:a|xa)(?:b|))c", b"xabc", found!(0, 4), &[]),
+    (b"aab(?(?<=a{2,3}b)c|d)", b"aabc", found!(0, 4), &[]),
+    (b"ab(?(?<=a{2,3}b)c|d)", b"abd", found!(0, 3), &[]),
+    (b"aa(?<*(a{1,2}))b|aa", b"aac", found!(0, 2), &[]),
+];
+
+// A try and the handing on of a place are a Step each. Units are those of the lookbehind, of a try with one left, of a
+// place handed on with one left, and of leaving.
+#[test]
+fn a_lookbehind_is_tried_by_its_lengths(rt: HostRuntime) -> Result<(), Fail> {
+    cases(&rt, rt.alloc(), A_LOOKBEHIND_IS_TRIED_BY_ITS_LENGTHS)
+}
+
 #[test]
 fn a_million_turns_take_two_steps_each(rt: HostRuntime) -> Result<(), Fail> {
     let alloc = rt.alloc();

@@ -8,6 +8,7 @@ ghost use Rattle.pat_tree.specs.Sound.{TreeRules};
 ghost use Rattle.uni_text.specs.Folding.{fold};
 ghost use Rattle.node_flow.specs.Branches.{AreBranchesOf, branch_of};
 ghost use Rattle.node_flow.specs.Followers.{IsFlowOf, next_of};
+ghost use Rattle.node_flow.specs.LookBranches.{AreLookBranchesOf, look_branch_of};
 ghost use Rattle.node_flow.specs.Order.{AreRanks, order};
 ghost use Rattle.char_sets.specs.Table.{IsTableOf};
 ghost use Rattle.pat_lengths.specs.Backs.{AreBacks, first_fault, greatest_back, lengths_at, lengths_back};
@@ -29,7 +30,7 @@ use crate::support::DfaSupport;
 use crate::survey::survey_of;
 use byte_lanes::ByteSet;
 use char_sets::ClassTable;
-use node_flow::{Branches, Flow, Ranks, preorder};
+use node_flow::{Branches, Flow, LookBranches, Ranks, preorder};
 use pat_lengths::{
     Back, Backs, Groups, branch_spans, fault_in, greatest_in, group_table, passes_whole,
 };
@@ -67,6 +68,8 @@ pub struct Facts {
     pub flow: Flow,
     /// The branches around the parts of the pattern.
     pub branches: Branches,
+    /// The branches of lookbehinds around the parts of the pattern.
+    pub look_branches: LookBranches,
     /// The places of its parts in the pattern.
     pub ranks: Ranks,
     /// Bytes of which every match takes one, where such a set is known and worth a look.
@@ -90,6 +93,15 @@ impl Facts {
             → result ≡ branch_of nodes root id }
     {
         self.branches.of(id)
+    }
+
+    /// The branch of a lookbehind around this part, if there is one in the innermost frame around it.
+    pub fn look_branch(&self, id: NodeId) -> Option<NodeId>
+        requires { id < length self.now.look_branches }
+        ensures { (nodes : List Placed) (root : ℕ) → AreLookBranchesOf nodes root self.now.look_branches
+            → result ≡ look_branch_of nodes root id }
+    {
+        self.look_branches.of(id)
     }
 
     /// The place of this part in the pattern, counted from 0.
@@ -122,7 +134,7 @@ impl Facts {
 /// Why nothing is told of a pattern.
 #[derive(Clone, Copy, Debug, PartialEq, Eq)]
 pub enum CheckError {
-    /// A lookbehind is refused: 125, a branch isn't of one length, or 187, it is too long. The place is that of the
+    /// A lookbehind is refused: 125, a branch has no greatest length, or 187, it is too long. The place is that of the
     /// lookbehind's parenthesis (pcre2pattern, "Lookbehind assertions").
     Bad { number: i32, at: u32 },
     /// Want of memory.
@@ -141,7 +153,8 @@ impl From<Memory> for CheckError {
 }
 
 /// What is known of a pattern, by its tree and the table of its classes. Refuses the first branch of a lookbehind in
-/// the pattern's order that isn't of one length or is longer than 65,535 characters; a pattern without lookbehinds is
+/// the pattern's order that has no greatest length, that is longer than 255 characters where its lengths differ, or than
+/// 65,535 where there is one; a pattern without lookbehinds is
 /// refused for want of memory alone. Nodes that aren't under the root don't count.
 pub fn check(alloc: Global, tree: &Tree, classes: &ClassTable) -> Result<Facts, CheckError>
     requires table { IsTableOf tree.now classes.now }
@@ -166,6 +179,8 @@ pub fn check(alloc: Global, tree: &Tree, classes: &ClassTable) -> Result<Facts, 
     ensures flow { IfOk result (λ facts. IsFlowOf tree.now.nodes tree.now.root facts.flow) }
     ensures branches { IfOk result (λ facts.
         AreBranchesOf tree.now.nodes tree.now.root facts.branches) }
+    ensures look_branches { IfOk result (λ facts.
+        AreLookBranchesOf tree.now.nodes tree.now.root facts.look_branches) }
     ensures ranks { IfOk result (λ facts. AreRanks tree.now.nodes tree.now.root facts.ranks) }
     ensures need { IfOk result (λ facts. IfSome facts.need (IsNeedOf tree.now)) }
     ensures fixed { IfOk result (λ facts. first_fault tree.now ≡ None) }
@@ -196,6 +211,7 @@ pub fn check(alloc: Global, tree: &Tree, classes: &ClassTable) -> Result<Facts, 
         greatest_back: greatest_in(tree, &order, &spans),
         flow: Flow::build(alloc, tree)?,
         branches: Branches::build(alloc, tree)?,
+        look_branches: LookBranches::build(alloc, tree)?,
         ranks: Ranks::build(alloc, tree)?,
         need: need_of(alloc, tree, classes)?,
     })

@@ -1,10 +1,10 @@
 -- The lengths of a branch of a lookbehind that is not refused.
 use Rattle.std.proofs.Common.{◌≡◌, ◌∙◌, ℕ, ◌<◌, ◌≤◌, ◌⊎◌, inl, inr, Bool, true, false, Option, Some, None, refl, ap}
 use Rattle.std.proofs.Common.{arith}
-use Rattle.std.specs.Prelude.{◌==◌, nat_le, nat_lt}
-use Rattle.std.proofs.lemmas.Bool.{eqb-true, leb-true, ltb-true}
+use Rattle.std.specs.Prelude.{◌==◌, nat_le}
+use Rattle.std.proofs.lemmas.Bool.{eqb-true, leb-true}
 use Rattle.pat_lengths.specs.HasLength.{AreLengths, AreSomeLengths}
-use Rattle.pat_lengths.specs.Lengths.{SomeLengths, between, only, counted, too_long, differing, too_different}
+use Rattle.pat_lengths.specs.Lengths.{SomeLengths, between, counted, too_long, differing, too_different}
 use Rattle.pat_lengths.specs.Lengths.{branch_fault}
 use Rattle.pat_lengths.specs.Spans.{kept}
 use Rattle.pat_lengths.specs.Backs.{back_of, lengths_back, length_of}
@@ -22,36 +22,17 @@ one_of_both : (b : Bool) (x y : Option ℕ) → (let z : Option ℕ = elim b [ t
 one_of_both true x y e = inl (refl, e)
 one_of_both false x y e = inr e
 
--- it has one length, which is not too long, or the greatest lets them differ
+-- it has one length, which is not too long, or the greatest lets the lengths differ
 pub passed : (least most : ℕ) → branch_fault (between least (Some most)) ≡ None
-    → ((counted least ≡ counted most) × (counted most ≤ 65535)) ⊎ (counted most < differing)
+    → ((counted least ≡ counted most) × (counted most ≤ 65535)) ⊎ (counted most ≤ differing)
 passed least most e =
     elim (one_of_both (counted least == counted most) (too_long (counted most)) (too_different (counted most)) e) [
       | inl h ↦ inl (
         eqb-true (counted least) (counted most) h.0,
         leb-true (counted most) 65535 (no_fault (nat_le (counted most) 65535) 187 h.1),
       )
-      | inr h ↦ inr (ltb-true (counted most) differing (no_fault (nat_lt (counted most) differing) 125 h))
+      | inr h ↦ inr (leb-true (counted most) differing (no_fault (nat_le (counted most) differing) 187 h))
     ]
-
-one_of : (least : ℕ) (most : Option ℕ) → branch_fault (between least most) ≡ None
-    → (n : ℕ) × (between least most ≡ only n)
-unfolding differing
-one_of least None e = absurd (some_none 125 e)
-one_of least (Some most) e =
-    elim (passed least most e) [
-      | inl h ↦
-          let same : counted least ≡ counted most = h.0 in
-          let short : counted most ≤ 65535 = h.1 in
-          let equal : most ≡ least = omega (arith, same, short) in
-          (least, ap (λ m. between least (Some m)) equal)
-      | inr l ↦ absurd (omega (arith, l))
-    ]
-
--- today its lengths are one
-pub one_length : (a : SomeLengths) → branch_fault a ≡ None → (n : ℕ) × (a ≡ only n)
-one_length None e = absurd (some_none 125 e)
-one_length (Some a) e = one_of a.least a.most e
 
 limited_by : (least : ℕ) (most : Option ℕ) → branch_fault (between least most) ≡ None
     → (b : Back) × (between least most ≡ lengths_back b)
@@ -63,7 +44,7 @@ pub limited : (a : SomeLengths) → branch_fault a ≡ None → (b : Back) × (a
 limited None e = absurd (some_none 125 e)
 limited (Some a) e = limited_by a.least a.most e
 
-few : differing ≤ 65536
+few : differing ≤ 65535
 unfolding differing
 few = omega arith
 

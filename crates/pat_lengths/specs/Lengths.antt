@@ -1,6 +1,6 @@
 -- How many characters a tree can match (pcre2pattern, "Lookbehind assertions").
 use Rattle.std.specs.Prelude.{ℕ, zero, suc, ◌+◌, ◌*◌, Bool, true, false, ◌||◌, ◌==◌, nat_le, min, max, List, [], ◌∷◌}
-use Rattle.std.specs.Prelude.{flat_map, nat_lt, Option, Some, None}
+use Rattle.std.specs.Prelude.{flat_map, Option, Some, None}
 use Rattle.std.specs.List.{list_any}
 use Rattle.pat_tree.specs.Nested.{Nested, Row, Test, Other, empty, one, line_break, seq, group, repeat, one_repeat}
 use Rattle.pat_tree.specs.Nested.{atomic, look, condition, call, ref, anchor, keep_out, verb, callout, none, more}
@@ -174,19 +174,18 @@ module _ (unset_matches : Bool) (whole : Nested) where
 abbrev pub counted : ℕ → ℕ
 counted k = min k 4294967295
 
--- a branch of a lookbehind may be so long
+-- a branch of a lookbehind of one length may be so long
 abbrev pub too_long : ℕ → Option ℕ
 too_long k = elim (nat_le k 65535) [ true ↦ None | false ↦ Some 187 ]
 
--- The lengths of a branch of a lookbehind may differ where the greatest is less than this
-unfoldable pub differing : ℕ
-differing = 0
-
 -- one whose lengths differ may be so long
-abbrev pub too_different : ℕ → Option ℕ
-too_different k = elim (nat_lt k differing) [ true ↦ None | false ↦ Some 125 ]
+unfoldable pub differing : ℕ
+differing = 255
 
--- why a branch of a lookbehind is refused: it has no greatest length, its lengths differ, or it is too long
+abbrev pub too_different : ℕ → Option ℕ
+too_different k = elim (nat_le k differing) [ true ↦ None | false ↦ Some 187 ]
+
+-- why a branch of a lookbehind is refused: it has no greatest length, or it is too long
 abbrev pub branch_fault : SomeLengths → Option ℕ
 branch_fault None = Some 125
 branch_fault (Some a) = of_most a.most

@@ -13,14 +13,14 @@ use pat_tree::{Memory, Node, NodeId, Tree};
 use std::alloc::Global;
 use std::marker::Model;
 
-/// A branch of a lookbehind isn't of one length.
-const NO_ONE_LENGTH: i32 = 125;
+/// A branch of a lookbehind has no greatest length.
+const NOT_LIMITED: i32 = 125;
 
 /// A branch of a lookbehind is too long.
 const BRANCH_TOO_LONG: i32 = 187;
 
-/// The lengths of a branch may differ where the greatest is less than this.
-const DIFFERING: u32 = 0;
+/// The greatest length of a branch whose lengths differ.
+const DIFFERING: u32 = 255;
 
 /// How far before its place a branch of a lookbehind begins, in characters: from the greatest of its lengths down to
 /// the least (pcre2pattern, "Lookbehind assertions").
@@ -33,7 +33,7 @@ pub struct Back {
 /// A lookbehind is refused, with the number of the fault and the place of its parenthesis.
 #[derive(Clone, Copy, Debug, PartialEq, Eq)]
 pub struct LengthFault {
-    /// 125, the branch isn't of one length, or 187, it is too long.
+    /// 125, a branch has no greatest length, or 187, it is too long.
     pub number: i32,
     pub at: u32,
 }
@@ -92,7 +92,7 @@ fn back_of(span: Option<Span>) -> Back
     }
 }
 
-/// The fault of a branch that isn't of one length or is too long, at its lookbehind's place.
+/// The fault of a branch that has no greatest length or is too long, at its lookbehind's place.
 fn fault_of(at: u32, span: Option<Span>) -> Option<LengthFault>
     ensures { (x : SomeLengths) → span ≡ kept x → result ≡ fault_from at (branch_fault x) }
 {
@@ -104,7 +104,7 @@ fn fault_of(at: u32, span: Option<Span>) -> Option<LengthFault>
     ) = span
     else {
         return Some(LengthFault {
-            number: NO_ONE_LENGTH,
+            number: NOT_LIMITED,
             at,
         });
     };
@@ -124,11 +124,11 @@ fn fault_of(at: u32, span: Option<Span>) -> Option<LengthFault>
 fn differing_fault(at: u32, most: u32) -> Option<LengthFault>
     ensures { result ≡ fault_from at (too_different most) }
 {
-    if most < DIFFERING {
+    if most <= DIFFERING {
         return None;
     }
     Some(LengthFault {
-        number: NO_ONE_LENGTH,
+        number: BRANCH_TOO_LONG,
         at,
     })
 }

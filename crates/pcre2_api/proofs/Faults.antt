@@ -1,6 +1,6 @@
 -- The numbers and the places of the faults of patterns.
 use Rattle.std.proofs.Common.{◌≡◌, ◌⊎◌, inl, inr, ℕ, ℤ, pos, negsuc, zero, suc, ◌≤◌, Bool, true, false, ◌||◌, ◌==◌}
-use Rattle.std.proofs.Common.{nat_le, nat_lt, List, [], ◌∷◌, ◌++◌, length, Option, Some, None, IsTrue, Result, Ok}
+use Rattle.std.proofs.Common.{nat_le, List, [], ◌∷◌, ◌++◌, length, Option, Some, None, IsTrue, Result, Ok}
 use Rattle.std.proofs.Common.{refl, sym}
 use Rattle.std.proofs.Common.{ap, ◌∙◌, subst, arith}
 use Rattle.std.proofs.lemmas.Bool.Decides.{nat_tests}
@@ -85,7 +85,7 @@ long_number k n h =
 
 different_number : (k n : ℕ) → too_different k ≡ Some n → IsTrue (is_fault (pos n))
 different_number k n h =
-    elim (nat_lt k differing) as (λ b. elim b [ true ↦ (let o : Option ℕ = None in o) | false ↦ Some 125 ] ≡ Some n
+    elim (nat_le k differing) as (λ b. elim b [ true ↦ (let o : Option ℕ = None in o) | false ↦ Some 187 ] ≡ Some n
     → IsTrue (is_fault (pos n))) [
       | true ↦ λ e. absurd cc
       | false ↦ λ e. subst (λ k. IsTrue (is_fault (pos k))) (some_is e) refl

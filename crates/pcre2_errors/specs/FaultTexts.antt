@@ -22,7 +22,7 @@ table =
     ∷ (119, codes "parentheses too deeply nested")
     ∷ (120, codes "pattern too large")
     ∷ (122, codes "unmatched closing parenthesis")
-    ∷ (125, codes "lookbehind is not fixed length")
+    ∷ (125, codes "lookbehind length is not limited")
     ∷ (126, codes "relative number zero")
     ∷ (127, codes "more than two branches in a condition")
     ∷ (128, codes "malformed condition")

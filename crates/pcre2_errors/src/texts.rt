@@ -25,7 +25,7 @@ fn text_of(number: u32) -> &'static [u8]
         119 => b"parentheses too deeply nested",
         120 => b"pattern too large",
         122 => b"unmatched closing parenthesis",
-        125 => b"lookbehind is not fixed length",
+        125 => b"lookbehind length is not limited",
         126 => b"relative number zero",
         127 => b"more than two branches in a condition",
         128 => b"malformed condition",

@@ -1,6 +1,6 @@
 use Rattle.frame_store.specs.Entry.{entries}
 use Rattle.frame_state.proofs.Frames.{slots_sound}
-use Rattle.frame_parts.proofs.BackTurns.{stop_none, pop_branch, pop_exit, pop_later, pop_fewer, pop_more}
+use Rattle.frame_parts.proofs.BackTurns.{stop_none, pop_branch, pop_try, pop_exit, pop_later, pop_fewer, pop_more}
 use Rattle.frame_parts.proofs.BackTurns.{pop_more_stops, pop_left, left_within, left_slots, exit_inside}
 use Rattle.frame_parts.proofs.BackTurns.{fewer_stands, more_inside, more_many, more_stands, more_few}
 use Rattle.frame_state.proofs.HeldStops.{tells_stop}
@@ -24,6 +24,13 @@ returns-then-newest-eq-KIND_LATER_BRANCH-clause-on g c =
     c.args.spot.now c.args.store.now.records c.pop.new.store.records c.in-Some.newest c.args.registers.now
     c.pop.new.registers c.requires.valid c.in-Some.ensures.popped c.in-Some.ensures.back
     c.if-newest-eq-KIND_LATER_BRANCH.true)
+
+pub returns-then-newest-eq-KIND_LATER_TRY-clause-on : goal.returns-then-newest-eq-KIND_LATER_TRY-clause-on
+returns-then-newest-eq-KIND_LATER_TRY-clause-on g c =
+    rw c.restore-then-newest-eq-KIND_LATER_TRY.ensures
+    (pop_try (g.S.Searchable.searched c.args.on.now) (g.met.S.Searchable.sound c.args.on.now) c.args.spot.now
+    c.args.store.now.records c.pop.new.store.records c.in-Some.newest c.args.registers.now c.pop.new.registers
+    c.requires.valid c.in-Some.ensures.popped c.in-Some.ensures.back c.if-newest-eq-KIND_LATER_TRY.true)
 
 pub go_on-requires : goal.go_on-requires
 go_on-requires g c = exit_inside (g.S.Searchable.searched c.args.on.now) (g.met.S.Searchable.sound c.args.on.now)
@@ -131,6 +138,7 @@ look_or_verb-requires-clause-other g c = (
   c.if-newest-eq-KIND_FEWER_ITEMS.false,
   c.if-newest-eq-KIND_MORE_ITEMS.false,
   c.if-newest-eq-KIND_ATOMIC_LEFT.false,
+  c.if-newest-eq-KIND_LATER_TRY.false,
 )
 
 pub returns-clause-on : goal.returns-clause-on

@@ -31,7 +31,7 @@ returns g c = λ older caps v. pop_plain (g.S.Searchable.searched c.args.on.now)
     refl refl c.requires.other.0 c.requires.other.1 c.requires.other.2 c.requires.other.3 c.requires.other.4
     c.requires.other.5 c.if-kept-eq-KIND_DENIAL_OPEN.false c.if-kept-eq-KIND_LOOK_TEST.false
     c.if-kept-eq-KIND_DENIAL_TEST.false c.if-kept-eq-KIND_COMMIT_PASSED.false c.if-kept-eq-KIND_PRUNE_PASSED.false
-    c.if-kept-eq-KIND_SKIP_PASSED.false c.if-kept-eq-KIND_THEN_PASSED.false
+    c.if-kept-eq-KIND_SKIP_PASSED.false c.if-kept-eq-KIND_THEN_PASSED.false c.requires.other.6
 
 pub go_on-requires : goal.go_on-requires
 go_on-requires g c = denial_inside (g.S.Searchable.searched c.args.on.now) (g.met.S.Searchable.sound c.args.on.now)

@@ -24,6 +24,7 @@ invariant_of-board g c =
           c.is_sound.ensures need.facts.fixed need.table searched groups few;
       flows = need.facts.flow;
       branches = need.facts.branches;
+      look_branches = need.facts.look_branches;
       ranks = need.facts.ranks;
       backs = need.facts.backs;
       known = record { empty = need.facts.empty; lookbehind = need.facts.lookbehind };

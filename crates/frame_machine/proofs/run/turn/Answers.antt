@@ -1,6 +1,11 @@
 use Rattle.std.proofs.Common.{◌≡◌, Err, rules}
 use Rattle.frame_state.specs.declared.machine.Next.{Next}
 use Rattle.frame_state.proofs.CalloutTurns.{still, end_still}
+use Rattle.frame_store.specs.Entry.{entries, entry_of}
+use Rattle.frame_state.specs.declared.machine.Next.TheVariants.{Settle}
+use Rattle.frame_state.specs.Steps.{over}
+use Rattle.frame_state.specs.Validity.{IsValid}
+use Rattle.frame_state.proofs.TryTurns.{turn_settle}
 use Rattle.frame_machine.proofs.run.turn.Goals as goal
 
 pub returns-in_err-branch-in-Branch-clause-stop : goal.returns-in_err-branch-in-Branch-clause-stop
@@ -9,6 +14,13 @@ returns-in_err-branch-in-Branch-clause-stop g c =
     search rules in
     rw (same, c.in-Branch.is) (end_still {A = Next} (g.S.Searchable.searched c.args.on.now) _ _ _ _
     (Err c.in_err-branch-in-Branch.field-0.0) c.in_err-branch-in-Branch.ensures.stop)
+
+pub returns-in_err-try_branch-in-Try-clause-stop : goal.returns-in_err-try_branch-in-Try-clause-stop
+returns-in_err-try_branch-in-Try-clause-stop g c =
+    let same : c.from_residual-in_err-try_branch-in-Try.result ≡ Err c.in_err-try_branch-in-Try.field-0.0 =
+    search rules in
+    rw (same, c.in-Try.is) (end_still {A = Next} (g.S.Searchable.searched c.args.on.now) _ _ _ _
+    (Err c.in_err-try_branch-in-Try.field-0.0) c.in_err-try_branch-in-Try.ensures.stop)
 
 pub returns-in_err-offer-in-Offer-clause-stop : goal.returns-in_err-offer-in-Offer-clause-stop
 returns-in_err-offer-in-Offer-clause-stop g c =
@@ -57,6 +69,10 @@ pub returns-in_ok-branch-in-Branch-clause-on : goal.returns-in_ok-branch-in-Bran
 returns-in_ok-branch-in-Branch-clause-on g c =
     rw c.in-Branch.is (still _ (g.S.Searchable.searched c.args.on.now) _ _ c.in_ok-branch-in-Branch.ensures.on)
 
+pub returns-in_ok-try_branch-in-Try-clause-on : goal.returns-in_ok-try_branch-in-Try-clause-on
+returns-in_ok-try_branch-in-Try-clause-on g c =
+    rw c.in-Try.is (still _ (g.S.Searchable.searched c.args.on.now) _ _ c.in_ok-try_branch-in-Try.ensures.on)
+
 pub returns-in_ok-offer-in-Offer-clause-on : goal.returns-in_ok-offer-in-Offer-clause-on
 returns-in_ok-offer-in-Offer-clause-on g c =
     rw c.in-Offer.is (still _ (g.S.Searchable.searched c.args.on.now) _ _ c.in_ok-offer-in-Offer.ensures.on)
@@ -84,3 +100,12 @@ returns-in_ok-back-in-Back-clause-on g c =
 pub returns-in_ok-accept-in-Accept-clause-on : goal.returns-in_ok-accept-in-Accept-clause-on
 returns-in_ok-accept-in-Accept-clause-on g c =
     rw c.in-Accept.is (still _ (g.S.Searchable.searched c.args.on.now) _ _ c.in_ok-accept-in-Accept.ensures.on)
+
+pub returns-in-Settle-clause-on : goal.returns-in-Settle-clause-on
+returns-in-Settle-clause-on g c =
+    let ground = g.S.Searchable.searched c.args.on.now in
+    let valid : IsValid ground (over Settle c.args.spot.now c.args.store.now c.args.registers.now) =
+    rw c.in-Settle.is at c.requires.valid in
+    rw (c.in-Settle.is, c.settle.ensures)
+    (still _ ground _ _
+    (turn_settle ground c.args.spot.now (entries c.args.store.now.records) c.args.registers.now valid))

@@ -62,4 +62,4 @@ pub branches_of-branches-requires-clause-inside : goal.branches_of-branches-requ
 branches_of-branches-requires-clause-inside g c = c.pass_branches-index.ensures.valid.running.0
 
 pub branches_of-branches-requires-clause-some : goal.branches_of-branches-requires-clause-some
-branches_of-branches-requires-clause-some g c = c.pass_branches-index.ensures.valid.running.2
+branches_of-branches-requires-clause-some g c = c.pass_branches-index.ensures.valid.running.2.0

@@ -28,6 +28,7 @@ answer_of-answer-requires-clause-facts c =
       greatest = told.greatest;
       flow = told.flow;
       branches = told.branches;
+      look_branches = told.look_branches;
       ranks = told.ranks;
       need = told.need;
     }

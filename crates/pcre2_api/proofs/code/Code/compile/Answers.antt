@@ -38,6 +38,7 @@ invariant_of-result c =
         greatest = told.greatest;
         flow = told.flow;
         branches = told.branches;
+        look_branches = told.look_branches;
         ranks = told.ranks;
         need = told.need;
       };
