@@ -207,7 +207,7 @@ module _ (whole : Nested) (trees : List Nested) (root m : ℕ) (places : List (O
   pub in_range : (x j : ℕ) → place_of places x ≡ Some j → j ≤ root
   in_range x j e = (subst (λ o. IsAt trees root o (group_of whole x)) e (at x)).0
 
-  no_group : (d x : ℕ) → place_of places x ≡ None → leads whole m d x ≡ false
+  pub no_group : (d x : ℕ) → place_of places x ≡ None → leads whole m d x ≡ false
   no_group d x e = lost whole m d x (subst (λ o. IsAt trees root o (group_of whole x)) e (at x))
 
   abbrev LeadsIn : ℕ → Type 0
@@ -346,17 +346,23 @@ module _ (whole : Nested) (trees : List Nested) (root m : ℕ) (places : List (O
         or_from (list_any q (under j)) _ (g j (All-head (λ j. j < k) j js below) (All-head Got j js a))
         (kids_none k g js (All-tail (λ j. j < k) j js below) (All-tail Got j js a))
 
+  pub closed_by : (seen : List Bool) (k : ℕ) (n : Node) → nest trees n ≡ tree_at trees k
+      → All (λ j. is_test (tree_at trees j) ≡ true) (asserted_by n) → All (λ j. j < k) (kids_of n) →
+      list_any (λ x. x == m) (names_of n) ≡ false → All (λ j. flagged seen j ≡ true)
+      (kids_of n ++ places_of places (names_of n)) → Closed trees places m seen k
+  closed_by seen k n is tests below none all q own kids =
+      under_is k n is tests q
+      ∙ or_from (list_any q (names_of n)) _
+      (own_none seen q own (names_of n) none (right (λ j. flagged seen j ≡ true) (kids_of n)
+      (places_of places (names_of n)) all))
+      (kids_none seen q k kids (kids_of n) below (left (λ j. flagged seen j ≡ true) (kids_of n)
+      (places_of places (names_of n)) all))
+
   pub closed_now : (r : Reached) (k : ℕ) (n : Node) → nest trees n ≡ tree_at trees k
       → All (λ j. is_test (tree_at trees j) ≡ true) (asserted_by n) → All (λ j. j < k) (kids_of n) →
       list_any (λ x. x == m) (names_of n) ≡ false → All (λ j. is_reached r j ≡ true)
       (kids_of n ++ places_of places (names_of n)) → ClosedIn r k
-  closed_now r k n is tests below none all q own kids =
-      under_is k n is tests q
-      ∙ or_from (list_any q (names_of n)) _
-      (own_none r.seen.items q own (names_of n) none (right (λ j. is_reached r j ≡ true) (kids_of n)
-      (places_of places (names_of n)) all))
-      (kids_none r.seen.items q k kids (kids_of n) below (left (λ j. is_reached r j ≡ true) (kids_of n)
-      (places_of places (names_of n)) all))
+  closed_now r k n is tests below none all = closed_by r.seen.items k n is tests below none all
 
   pub closed_on : (old new : Reached) (ids : List ℕ) (i d : ℕ) → Grows old new ids → i < length old.nodes.items
       → All (ClosedIn old) (take i old.nodes.items) →

@@ -19,10 +19,10 @@ use Rattle.pat_lengths.proofs.RoundLemmas.{some_lead, lost}
 
 -- How many of these have a property.
 
-abbrev one_if : Bool → ℕ
+abbrev pub one_if : Bool → ℕ
 one_if b = if b then 1 else 0
 
-abbrev tally : (ℕ → Bool) → List ℕ → ℕ
+abbrev pub tally : (ℕ → Bool) → List ℕ → ℕ
 tally p [] = 0
 tally p (x ∷ xs) = one_if (p x) + tally p xs
 
@@ -43,7 +43,7 @@ tally_more p q more [] = omega arith
 tally_more p q more (x ∷ xs) = let one = one_more (p x) (q x) (more x) in let rest = tally_more p q more xs in
     omega (arith, one, rest)
 
-compare : (p q : ℕ → Bool) → ((x : ℕ) → p x ≡ true → q x ≡ true) → (xs : List ℕ)
+pub compare : (p q : ℕ → Bool) → ((x : ℕ) → p x ≡ true → q x ≡ true) → (xs : List ℕ)
     → (tally p xs < tally q xs) ⊎ All (λ x. q x ≡ p x) xs
 compare p q more [] = inr (All-nil (λ x. q x ≡ p x))
 compare p q more (x ∷ xs) = at (p x) refl (q x) refl (compare p q more xs)
@@ -61,7 +61,7 @@ compare p q more (x ∷ xs) = at (p x) refl (q x) refl (compare p q more xs)
     at false e false f (inl lt) = let one = one_more (p x) (q x) (more x) in inl (omega (arith, one, lt))
     at false e false f (inr all) = inr (All-cons (λ x. q x ≡ p x) x xs (f ∙ sym e) all)
 
-full : (p : ℕ → Bool) (xs : List ℕ) → length xs ≤ tally p xs → All (λ x. p x ≡ true) xs
+pub full : (p : ℕ → Bool) (xs : List ℕ) → length xs ≤ tally p xs → All (λ x. p x ≡ true) xs
 full p [] h = All-nil (λ x. p x ≡ true)
 full p (x ∷ xs) h = at (p x) refl (λ l. full p xs l)
   where
@@ -106,6 +106,13 @@ named_there n (tree.group (Some k) us ∷ ts) h = at (k == n) refl (λ l. named_
 named_there n (tree.group None us ∷ ts) h = named_there n ts h
 named_there n (_ ∷ ts) h = named_there n ts h
 
+-- 0 is the whole pattern
+abbrev pub numbers_of_groups : Nested → List ℕ
+numbers_of_groups whole = 0 ∷ numbers (all_nodes whole)
+
+pub so_many : (whole : Nested) → length (numbers_of_groups whole) ≡ suc (captures whole)
+so_many whole = ap suc (numbers_count (all_nodes whole))
+
 module _ (whole : Nested) (m : ℕ) where
   abbrev pub leads : ℕ → ℕ → Bool
   leads d n = lead_to whole d (names_of_group whole n) m
@@ -144,9 +151,9 @@ module _ (whole : Nested) (m : ℕ) where
       ∙ sym (next d (names_of_group whole n)) ∙ h n
 
   abbrev groups : List ℕ
-  groups = 0 ∷ numbers (all_nodes whole)
+  groups = numbers_of_groups whole
 
-  there : (n : ℕ) → (group_of whole n ≡ None) ⊎ Contains groups n
+  pub there : (n : ℕ) → (group_of whole n ≡ None) ⊎ Contains groups n
   there n = at (n == 0) refl
     where
       found : (o : Option Nested) → find_group n whole ≡ o → (find_group n whole ≡ None) ⊎ Contains groups n
@@ -180,19 +187,23 @@ module _ (whole : Nested) (m : ℕ) where
     ]
   ]
 
-  pub comes_back : (x : ℕ) → leads x m ≡ true → leads (suc (captures whole)) m ≡ true
-  comes_back x h = elim (reach (suc (captures whole))) [
+  -- a group that leads to another does so within as many calls and references as there are groups
+  pub reaches : (x n : ℕ) → leads x n ≡ true → leads (suc (captures whole)) n ≡ true
+  reaches x n h = elim (reach (suc (captures whole))) [
     | inl s ↦
         let here : s.at + x ≡ x + s.at = omega arith in
         let long : suc (captures whole) ≡ (suc (captures whole) - s.at) + s.at = omega (arith, s.below) in
-        let told : leads s.at m ≡ true = sym (stay s.at s.same x (s.at + x) m here)
-        ∙ many_on s.at x (s.at + x) m refl h in
-        stay s.at s.same (suc (captures whole) - s.at) (suc (captures whole)) m long ∙ told
+        let told : leads s.at n ≡ true = sym (stay s.at s.same x (s.at + x) n here)
+        ∙ many_on s.at x (s.at + x) n refl h in
+        stay s.at s.same (suc (captures whole) - s.at) (suc (captures whole)) n long ∙ told
     | inr le ↦
         let count : length groups ≡ suc (captures whole) = ap suc (numbers_count (all_nodes whole)) in
-        elim (there m) [
-          | inl none ↦ absurd (false≢true (sym (lost whole m x m none) ∙ h))
-          | inr at ↦ All-contains (λ y. leads (suc (captures whole)) y ≡ true) groups m
+        elim (there n) [
+          | inl none ↦ absurd (false≢true (sym (lost whole m x n none) ∙ h))
+          | inr at ↦ All-contains (λ y. leads (suc (captures whole)) y ≡ true) groups n
               (full (leads (suc (captures whole))) groups (omega (arith, le, count))) at
         ]
   ]
+
+  pub comes_back : (x : ℕ) → leads x m ≡ true → leads (suc (captures whole)) m ≡ true
+  comes_back x h = reaches x m h

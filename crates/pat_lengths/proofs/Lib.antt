@@ -14,5 +14,7 @@ pub mod SpanLemmas
 pub mod Placing
 pub mod LeadingStable
 pub mod LeadingLemmas
-pub mod EndingLemmas
+pub mod RingLemmas
 pub mod PlainLemmas
+pub mod SettleLemmas
+pub mod EmptyLemmas

@@ -1,7 +1,7 @@
 -- The lengths of a node by those of its children, as they are kept.
 use Rattle.std.proofs.Common.{◌≡◌, ◌∙◌, ℕ, zero, suc, ◌+◌, ◌*◌, ◌<◌, ◌||◌, Bool, true, false, List, [], ◌∷◌, map}
 use Rattle.std.proofs.Common.{length, get_or, Option, Some, None, All, inl, inr, refl, sym, ap, subst, arith}
-use Rattle.std.proofs.lemmas.Bool.{cases_lt, le-leb}
+use Rattle.std.proofs.lemmas.Bool.{cases_lt, false≢true, le-leb}
 use Rattle.std.proofs.lemmas.List.Elements.{All-head}
 use Rattle.pat_tree.specs.declared.nodes.Cond.{Cond}
 use Rattle.pat_tree.specs.declared.nodes.Cond.TheVariants.{AnySet, InCall, InCallOf, Never, Assert}
@@ -15,8 +15,10 @@ use Rattle.pat_lengths.specs.Nodes.{captures, has_shared_number}
 use Rattle.pat_lengths.specs.Passing.{flagged, IsAt, place_of}
 use Rattle.pat_lengths.proofs.RoundLemmas.{lost}
 use Rattle.pat_lengths.specs.Lengths.{SomeLengths, counted, only, any_length, behind, leads_back, lengths_of_group}
+use Rattle.pat_lengths.specs.Lengths.{named_in_group, names_of_group}
 use Rattle.pat_lengths.specs.Lengths.{in_turn, either, most_in_turns, in_some_turns, in_turns, lengths}
 use Rattle.pat_lengths.specs.Lengths.{lengths_in_turn, lengths_of_one, lengths_of_other, of_test}
+use Rattle.pat_lengths.specs.Spans.{EachBy, one_round}
 use Rattle.pat_lengths.specs.Spans.{counted_most, kept, span_at, span_in, KeepSpans, KeepGroups, lengths_of_parts}
 use Rattle.pat_lengths.specs.Spans.{lengths_of_branches, lengths_of_second, lengths_of_condition}
 use Rattle.pat_lengths.specs.declared.spans.Span.{Span}
@@ -152,6 +154,65 @@ span_step unset whole trees root d n spans next places back count keep is at sam
           let none : group_of whole n ≡ None = subst (λ p. IsAt trees root p (group_of whole n)) past (at n) in
           let no_back : leads_back whole n ≡ false = lost whole n (suc (captures whole)) n none in
           get_or_past next n None (omega (arith, same, l)) ∙ rw (no_back, none, behind) refl
+    ]
+
+placed_round : (unset : Bool) (whole : Nested) (trees : List Nested) (root n : ℕ) (f : ℕ → SomeLengths)
+    (P : ℕ → Type 0) (spans : List (Option Span)) (place : Option ℕ) (back : Bool) → length spans ≡ root + 1
+    → EachBy P (lengths unset whole f) trees spans → back ≡ leads_back whole n → IsAt trees root place (group_of whole n)
+    → All P (names_of_group whole n) → span_in spans place back ≡ kept (one_round unset whole f n)
+placed_round unset whole trees root n f P spans place back count each is at names =
+    here place back (leads_back whole n) is at
+  where
+    here : (place : Option ℕ) (b c : Bool) → b ≡ c → IsAt trees root place (group_of whole n) →
+        span_in spans place b ≡ kept (elim c as (λ c. SomeLengths) [
+          | true ↦ any_length
+          | false ↦ lengths_of_group (lengths unset whole f) (group_of whole n)
+        ])
+    here place true true e at = refl
+    here place true false e at = absurd (cc)
+    here place false true e at = absurd (cc)
+    here None false false e at = rw at refl
+    here (Some k) false false e at =
+        each k (omega (arith, count, at.0)) (subst (λ o. All P (named_in_group o)) at.1 names)
+        ∙ ap (λ o. kept (lengths_of_group (lengths unset whole f) o)) (sym at.1)
+
+-- a round of a table of which the groups are right that a group names is right of it
+pub round_of : (unset : Bool) (whole : Nested) (trees : List Nested) (root n : ℕ) (f : ℕ → SomeLengths)
+    (P : ℕ → Type 0) (spans next : List (Option Span)) (places : List (Option ℕ)) (back : List Bool) →
+    length spans ≡ root + 1 → EachBy P (lengths unset whole f) trees spans
+    → ((n : ℕ) → flagged back n ≡ leads_back whole n)
+    → ((n : ℕ) → IsAt trees root (place_of places n) (group_of whole n)) →
+    length next ≡ length places
+    → ((i : ℕ) → i < length places → span_at next i ≡ span_in spans (get_or places i None) (flagged back i)) →
+    All P (names_of_group whole n) → span_at next n ≡ kept (one_round unset whole f n)
+round_of unset whole trees root n f P spans next places back count each is at same are names =
+    elim (cases_lt n (length places)) [
+      | inl l ↦ are n l ∙ placed_round unset whole trees root n f P spans (get_or places n None) (flagged back n) count
+          each (is n) (at n) names
+      | inr l ↦
+          let past : place_of places n ≡ None = get_or_past places n None l in
+          let none : group_of whole n ≡ None = subst (λ p. IsAt trees root p (group_of whole n)) past (at n) in
+          let no_back : leads_back whole n ≡ false = lost whole n (suc (captures whole)) n none in
+          get_or_past next n None (omega (arith, same, l))
+          ∙ ap kept (sym (ap (λ b. elim b as (λ b. SomeLengths) [
+            | true ↦ any_length
+            | false ↦ lengths_of_group (lengths unset whole f) (group_of whole n)
+          ]) no_back ∙ ap (lengths_of_group (lengths unset whole f)) none))
+    ]
+
+-- a group that leads back to itself has any length after a round
+pub round_back : (whole : Nested) (trees : List Nested) (root n : ℕ) (spans next : List (Option Span))
+    (places : List (Option ℕ)) (back : List Bool) → ((n : ℕ) → flagged back n ≡ leads_back whole n)
+    → ((n : ℕ) → IsAt trees root (place_of places n) (group_of whole n))
+    → ((i : ℕ) → i < length places → span_at next i ≡ span_in spans (get_or places i None) (flagged back i))
+    → leads_back whole n ≡ true → span_at next n ≡ kept any_length
+round_back whole trees root n spans next places back is at are h =
+    elim (cases_lt n (length places)) [
+      | inl l ↦ are n l ∙ ap (span_in spans (get_or places n None)) (is n ∙ h)
+      | inr l ↦
+          let past : place_of places n ≡ None = get_or_past places n None l in
+          let none : group_of whole n ≡ None = subst (λ p. IsAt trees root p (group_of whole n)) past (at n) in
+          absurd (false≢true (sym (lost whole n (suc (captures whole)) n none) ∙ h))
     ]
 
 -- before the first round no group has a length

@@ -8,4 +8,4 @@ pub mod Spans
 pub mod Rounds
 pub mod Lookbehinds
 pub mod Leading
-pub mod Endings
+pub mod Rings

@@ -1,5 +1,5 @@
 -- Lengths as they are kept: those past 32 bits count as the greatest number.
-use Rattle.std.specs.Prelude.{◌≡◌, ◌<◌, ◌||◌, ℕ, Bool, true, false, List, [], ◌∷◌, length, Option, Some, None}
+use Rattle.std.specs.Prelude.{◌≡◌, ◌<◌, ◌||◌, ℕ, Bool, true, false, List, [], ◌∷◌, All, length, Option, Some, None}
 use Rattle.std.specs.Prelude.{slice_index_or}
 use Rattle.pat_tree.specs.declared.nodes.Cond.{Cond}
 use Rattle.pat_tree.specs.declared.nodes.Cond.TheVariants.{Never}
@@ -7,8 +7,10 @@ use Rattle.pat_tree.specs.Nested.{Nested, tree_at}
 use Rattle.std.specs.List.{list_any}
 use Rattle.pat_tree.specs.Parts.{TreeParts, tree_of}
 use Rattle.pat_lengths.specs.Passing.{flagged}
-use Rattle.pat_lengths.specs.Nodes.{has_shared_number, is_accept, nodes_outside_lookarounds}
-use Rattle.pat_lengths.specs.Lengths.{SomeLengths, counted, only, any_length, in_turn, either, behind}
+use Rattle.pat_lengths.specs.Nodes.{has_shared_number, is_accept, named_in, nodes_outside_lookarounds}
+use Rattle.pat_lengths.specs.Lengths.{SomeLengths, counted, only, any_length, in_turn, either, behind, leads_back}
+use Rattle.pat_lengths.specs.Lengths.{lengths, lengths_of_group}
+use Rattle.pat_tree.specs.Groups.{group_of}
 use Rattle.pat_lengths.specs.declared.spans.Span.{Span}
 
 abbrev pub counted_most : Option ℕ → Option ℕ
@@ -26,6 +28,11 @@ span_at spans k = slice_index_or spans k None
 -- what is kept of the first nodes is what they are
 abbrev pub KeepSpans : (Nested → SomeLengths) → List Nested → List (Option Span) → Type 0
 KeepSpans of trees spans = (k : ℕ) → k < length spans → span_at spans k ≡ kept (of (tree_at trees k))
+
+-- so it is of those of the first nodes that name such groups alone
+abbrev pub EachBy : (ℕ → Type 0) → (Nested → SomeLengths) → List Nested → List (Option Span) → Type 0
+EachBy P of trees spans =
+    (k : ℕ) → k < length spans → All P (named_in (tree_at trees k)) → span_at spans k ≡ kept (of (tree_at trees k))
 
 -- what is kept of groups is what they are, and whether a reference may have any length
 pub record KeepGroups (unset_matches : Bool) (whole : Nested) (of_group : ℕ → SomeLengths) (any : Bool)
@@ -56,6 +63,14 @@ abbrev pub span_in : List (Option Span) → Option ℕ → Bool → Option Span
 span_in spans place true = kept any_length
 span_in spans None false = None
 span_in spans (Some k) false = span_at spans k
+
+-- a group's by those of the groups that it names; any where it leads back to itself
+abbrev pub one_round : Bool → Nested → (ℕ → SomeLengths) → ℕ → SomeLengths
+one_round unset whole f n =
+    elim (leads_back whole n) as (λ b. SomeLengths) [
+      | true ↦ any_length
+      | false ↦ lengths_of_group (lengths unset whole f) (group_of whole n)
+    ]
 
 -- what is kept of the groups is what they are in lookbehinds, by fewer than d calls and references inside one another
 abbrev pub AreBehind : TreeParts → Bool → ℕ → List (Option Span) → Type 0

@@ -1,5 +1,5 @@
 // The lengths of a pattern's parts as branches of lookbehinds.
-ghost use Rattle.std.specs.Prelude.{◌≡◌, ℕ, suc, ◌+◌, ◌<◌, ◌||◌, true, false, if◌then◌else◌, All, List, [], IfOk};
+ghost use Rattle.std.specs.Prelude.{◌≡◌, ℕ, suc, ◌+◌, ◌<◌, ◌≤◌, ◌||◌, true, false, if◌then◌else◌, All, List, [], IfOk};
 ghost use Rattle.std.specs.Prelude.{length};
 ghost use Rattle.std.specs.List.{list_any};
 ghost use Rattle.pat_tree.specs.Nested.{Nested, trees, tree_at, nest};
@@ -7,18 +7,20 @@ ghost use Rattle.pat_tree.specs.Parts.{tree_of};
 ghost use Rattle.pat_tree.specs.Rules.{kids_of, asserted_by, is_test};
 ghost use Rattle.pat_lengths.specs.Backs.{AreBranches};
 ghost use Rattle.pat_lengths.specs.Lengths as lengths;
-ghost use Rattle.pat_lengths.specs.Nodes.{is_accept, nodes_outside_lookarounds};
-ghost use Rattle.pat_lengths.specs.Passing.{IsGroupTable, flagged, passes_at, place_of};
+ghost use Rattle.pat_lengths.specs.Lengths.{SomeLengths, names_of_group};
+ghost use Rattle.pat_lengths.specs.Nodes.{has_shared_number, is_accept, nodes_outside_lookarounds};
+ghost use Rattle.pat_lengths.specs.Passing.{IsGroupTable, flagged, place_of};
 ghost use Rattle.pat_lengths.specs.Rounds.{KeepAnswers};
-ghost use Rattle.pat_lengths.specs.Spans.{AreBehind, KeepAccepts, KeepSpans, kept, span_at, span_in};
+ghost use Rattle.pat_lengths.specs.Spans.{AreBehind, KeepAccepts, KeepSpans, kept, one_round, span_at, span_in};
 
 use crate::accepts::is_accept;
-use crate::endings::endings_of;
-use crate::groups::Groups;
+use crate::groups::{Groups, number_of};
 use crate::kids::{has_flag, some_kid};
 use crate::leading::comes_back;
-use crate::lengths::spans_of;
+use crate::lengths::{node_span, spans_of};
 use crate::passing::has_any_length;
+use crate::ranks::{are_right, named_within};
+use crate::rings::{Rings, rings_of};
 use crate::rounds::{Question, flag_at, names_groups, node_answers};
 use crate::spans::{Span, any_length, is_same};
 use pat_tree::{Memory, Node, NodeId, Tree};
@@ -58,8 +60,9 @@ fn settled_spans(
         let spans = spans_of(alloc, tree, any, &[])?;
         return Ok(spans);
     }
-    let back = leads_back(alloc, tree, groups)?;
-    let of_groups = settled(alloc, tree, groups, any, &back)?;
+    let told = rings_of(alloc, tree, groups)?;
+    let back = leads_back(alloc, tree, groups, &told.rings)?;
+    let of_groups = settled(alloc, tree, groups, any, &back, &told.order)?;
     let spans = spans_of(alloc, tree, any, &of_groups)?;
     Ok(spans)
 }
@@ -81,43 +84,53 @@ fn freed(alloc: Global, spans: &[Option<Span>], free: &[bool]) -> Result<Vec<Opt
 }
 
 /// Which groups lead back to themselves by calls and references.
-fn leads_back(alloc: Global, tree: &Tree, groups: &Groups) -> Result<Vec<bool>, Memory>
+// By rings that a search found, once they are known to be right. Were they not, each group would be searched by itself.
+pub(crate) fn leads_back(
+    alloc: Global,
+    tree: &Tree,
+    groups: &Groups,
+    rings: &Rings,
+) -> Result<Vec<bool>, Memory>
+    requires { IsGroupTable (trees tree.now.nodes) tree.now.root (tree_of tree.now) groups.now }
+    ensures { IfOk result (λ back.
+        (n : ℕ) → flagged back.items n ≡ lengths.leads_back (tree_of tree.now) n) }
+{
+    if are_right(alloc, tree, groups, rings)? {
+        return named_within(alloc, tree, groups, rings);
+    }
+    each_searched(alloc, tree, groups)
+}
+
+fn each_searched(alloc: Global, tree: &Tree, groups: &Groups) -> Result<Vec<bool>, Memory>
     requires { IsGroupTable (trees tree.now.nodes) tree.now.root (tree_of tree.now) groups.now }
     ensures { IfOk result (λ back.
         (n : ℕ) → flagged back.items n ≡ lengths.leads_back (tree_of tree.now) n) }
 {
     let names = node_answers(alloc, tree, Question::Names, &[])?;
-    let ending = endings_of(alloc, tree, groups)?;
     let mut back = Vec::with_capacity(alloc, groups.places.len())?;
     for target in 0..groups.places.len() {
-        back.push(leads_to_itself(alloc, tree, groups, &names, &ending, target)?)?;
+        back.push(leads_to_itself(alloc, tree, groups, &names, target)?)?;
     }
     Ok(back)
 }
 
-/// Whether a group leads back to itself, where it is known which nodes name groups, and from which each way ends. One
-/// that names no other leads nowhere, and needs no search.
+/// Whether a group leads back to itself, where it is known which nodes name groups. One that names no other leads
+/// nowhere, and needs no search.
 fn leads_to_itself(
     alloc: Global,
     tree: &Tree,
     groups: &Groups,
     names: &[bool],
-    ending: &[bool],
     target: usize,
 ) -> Result<bool, Memory>
     requires table { IsGroupTable (trees tree.now.nodes) tree.now.root (tree_of tree.now)
         groups.now }
     requires count { length names.now ≡ tree.now.root + 1 }
     requires kept { KeepAnswers Question.Names [] (trees tree.now.nodes) names.now }
-    requires ending { passes_at ending.now (place_of groups.now.places.items target) ≡ true
-        → lengths.leads_back (tree_of tree.now) target ≡ false }
     ensures { IfOk result (λ back. back ≡ lengths.leads_back (tree_of tree.now) target) }
 {
     let place = place_at(&groups.places, target);
     if !flag_at(names, place) {
-        return Ok(false);
-    }
-    if flag_at(ending, place) {
         return Ok(false);
     }
     comes_back(alloc, tree, groups, target)
@@ -134,20 +147,28 @@ pub(crate) fn place_at(places: &[Option<NodeId>], n: usize) -> Option<NodeId>
 
 /// The lengths of each group in lookbehinds, where calls and references lead through as many groups as there are. A
 /// group that leads back to itself has any length.
-// A round that changes nothing is the last: every later one would change nothing either.
+// Lengths that a round doesn't change are those. They are found in one pass over the nodes, each after all that it
+// leads to but groups that lead back; rounds from the first on would find them too.
 fn settled(
     alloc: Global,
     tree: &Tree,
     groups: &Groups,
     any: bool,
     back: &[bool],
+    order: &[NodeId],
 ) -> Result<Vec<Option<Span>>, Memory>
     requires table { IsGroupTable (trees tree.now.nodes) tree.now.root (tree_of tree.now)
         groups.now }
     requires any { any ≡ (tree.now.options.match_unset_backref || groups.now.shared) }
     requires back { (n : ℕ) → flagged back.now n ≡ lengths.leads_back (tree_of tree.now) n }
+    requires below { All (λ k. k ≤ tree.now.root) order.now }
     ensures { IfOk result (λ of. AreBehind tree.now any (suc groups.now.count) of.items) }
 {
+    let found = in_order(alloc, tree, groups, any, back, order)?;
+    let after = next_round(alloc, tree, groups, any, back, &found)?;
+    if are_same(&after, &found) {
+        return Ok(found);
+    }
     let mut of = next_round(alloc, tree, groups, any, back, &[])?;
     for _ in 0..groups.count {
         let next = next_round(alloc, tree, groups, any, back, &of)?;
@@ -157,6 +178,71 @@ fn settled(
         of = next;
     }
     Ok(of)
+}
+
+/// What one pass over the nodes in an order finds as the lengths of each group.
+fn in_order(
+    alloc: Global,
+    tree: &Tree,
+    groups: &Groups,
+    any: bool,
+    back: &[bool],
+    order: &[NodeId],
+) -> Result<Vec<Option<Span>>, Memory>
+    requires { All (λ k. k ≤ tree.now.root) order.now }
+{
+    let mut of = first_lengths(alloc, groups.places.len(), back)?;
+    let mut spans = vec![in alloc; None; tree.root() as usize + 1]?;
+    for id in order {
+        let node = tree.node(*id);
+        let span = node_span(node, any, &of, &spans);
+        spans[*id as usize] = span;
+        tell_group(&mut of, groups, *id, number_of(node), span, back);
+    }
+    tell_group(
+        &mut of,
+        groups,
+        tree.root(),
+        Some(0),
+        spans[tree.root() as usize],
+        back,
+    );
+    Ok(of)
+}
+
+/// Any length for each group that leads back to itself, and none yet for the others.
+fn first_lengths(alloc: Global, count: usize, back: &[bool]) -> Result<Vec<Option<Span>>, Memory> {
+    let mut of = Vec::with_capacity(alloc, count)?;
+    for number in 0..count {
+        of.push(if has_flag(back, number) {
+            any_length()
+        } else {
+            None
+        })?;
+    }
+    Ok(of)
+}
+
+/// Takes in the lengths of a group at its place, unless it leads back to itself.
+fn tell_group(
+    of: &mut [Option<Span>],
+    groups: &Groups,
+    id: NodeId,
+    number: Option<u16>,
+    span: Option<Span>,
+    back: &[bool],
+)
+    ensures { length of.new ≡ length of.old }
+{
+    let Some(number) = number else {
+        return;
+    };
+    if groups.place(number) != Some(id) || has_flag(back, number as usize) {
+        return;
+    }
+    if let Some(slot) = of.get_mut(number as usize) {
+        *slot = span;
+    }
 }
 
 /// The lengths of each group, where calls and references lead one group further.
@@ -171,8 +257,17 @@ fn next_round(
     requires table { IsGroupTable (trees tree.now.nodes) tree.now.root (tree_of tree.now)
         groups.now }
     requires back { (n : ℕ) → flagged back.now n ≡ lengths.leads_back (tree_of tree.now) n }
-    ensures { IfOk result (λ next.
+    ensures further { IfOk result (λ next.
         (d : ℕ) → AreBehind tree.now any d of.now → AreBehind tree.now any (suc d) next.items) }
+    ensures back { IfOk result (λ next.
+        (n : ℕ) → lengths.leads_back (tree_of tree.now) n ≡ true
+        → span_at next.items n ≡ kept lengths.any_length) }
+    ensures round { IfOk result (λ next.
+        any ≡ (tree.now.options.match_unset_backref || has_shared_number (tree_of tree.now))
+        → (f : ℕ → SomeLengths) → (n : ℕ)
+        → All (λ x. span_at of.now x ≡ kept (f x)) (names_of_group (tree_of tree.now) n)
+        → span_at next.items n
+        ≡ kept (one_round tree.now.options.match_unset_backref (tree_of tree.now) f n)) }
 {
     let spans = spans_of(alloc, tree, any, of)?;
     let mut next = Vec::with_capacity(alloc, groups.places.len())?;

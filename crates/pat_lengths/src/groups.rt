@@ -77,7 +77,7 @@ impl Groups {
 }
 
 /// The number of a capturing group.
-fn number_of(node: &Node) -> Option<u16>
+pub(crate) fn number_of(node: &Node) -> Option<u16>
     ensures own { number_in result ≡ numbers_of node.now }
     ensures told { (trees : List Nested) → result ≡ capture_number (nest trees node.now) }
 {

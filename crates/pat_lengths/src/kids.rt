@@ -1,5 +1,5 @@
 // What holds of a node's children, where it is kept for each node by its number.
-ghost use Rattle.std.specs.Prelude.{◌≡◌, ◌∷◌, ◌++◌};
+ghost use Rattle.std.specs.Prelude.{◌≡◌, ℕ, ◌<◌, ◌∷◌, ◌++◌, length};
 ghost use Rattle.std.specs.List.{list_all, list_any};
 ghost use Rattle.pat_tree.specs.Rules.{kids_of, number_in, tests_of};
 ghost use Rattle.pat_lengths.specs.Passing.{flagged};
@@ -12,6 +12,17 @@ pub(crate) fn has_flag(flags: &[bool], n: usize) -> bool
     match flags.get(n) {
         Some(flag) => *flag,
         None => false,
+    }
+}
+
+pub(crate) fn set_flag(flags: &mut Vec<bool>, n: usize, flag: bool)
+    ensures size { length flags.new.items ≡ length flags.old.items }
+    ensures here { n < length flags.old.items → flagged flags.new.items n ≡ flag }
+    ensures others { (k : ℕ) → (k ≡ n → ⊥)
+        → flagged flags.new.items k ≡ flagged flags.old.items k }
+{
+    if n < flags.len() {
+        flags[n] = flag;
     }
 }
 
@@ -57,36 +68,4 @@ pub(crate) fn every_flag(ids: &[NodeId], flags: &[bool]) -> bool
     ensures { result ≡ list_all (flagged flags.now) ids.now }
 {
     ids.iter().all(|id| has_flag(flags, *id as usize))
-}
-
-/// Whether all children have a flag.
-pub(crate) fn every_kid(node: &Node, flags: &[bool]) -> bool
-    ensures { result ≡ list_all (flagged flags.now) (kids_of node.now) }
-{
-    match node {
-        Node::Seq(kids) => every_flag(kids.as_slice(), flags),
-        Node::Group { branches, .. } => every_flag(branches.as_slice(), flags),
-        Node::Repeat { body, .. } => has_flag(flags, *body as usize),
-        Node::Atomic(branches) => every_flag(branches.as_slice(), flags),
-        Node::Look { branches, .. } => every_flag(branches.as_slice(), flags),
-        Node::Cond { test, yes, no } => every_of_condition(test, *yes, *no, flags),
-        _ => true,
-    }
-}
-
-fn every_of_condition(test: &Cond, yes: NodeId, no: Option<NodeId>, flags: &[bool]) -> bool
-    ensures { result ≡ list_all (flagged flags.now) (tests_of test.now ++ yes ∷ number_in no) }
-{
-    if let Cond::Assert(test) = test {
-        if !has_flag(flags, *test as usize) {
-            return false;
-        }
-    }
-    if !has_flag(flags, yes as usize) {
-        return false;
-    }
-    match no {
-        Some(no) => has_flag(flags, no as usize),
-        None => true,
-    }
 }

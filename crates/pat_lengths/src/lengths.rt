@@ -1,10 +1,12 @@
 // The lengths of a pattern's nodes, where each call and reference is as long as the group that it names.
-ghost use Rattle.std.specs.Prelude.{◌≡◌, ℕ, ◌+◌, ◌∷◌, ◌<◌, true, All, Bool, List, IfOk, length};
+ghost use Rattle.std.specs.Prelude.{◌≡◌, ℕ, ◌+◌, ◌∷◌, ◌<◌, ◌||◌, true, All, Bool, List, IfOk, length};
 ghost use Rattle.pat_tree.specs.Nested.{Nested, trees, tree_at, nest};
 ghost use Rattle.pat_tree.specs.Rules.{kids_of, asserted_by, is_test, number_in, IsOrdered};
+ghost use Rattle.pat_lengths.specs.Leading.{names_of};
 ghost use Rattle.pat_lengths.specs.Lengths as lengths;
 ghost use Rattle.pat_lengths.specs.Lengths.{SomeLengths, lengths};
-ghost use Rattle.pat_lengths.specs.Spans.{kept, span_at, KeepSpans, KeepGroups, lengths_of_parts};
+ghost use Rattle.pat_lengths.specs.Nodes.{has_shared_number};
+ghost use Rattle.pat_lengths.specs.Spans.{EachBy, kept, span_at, KeepSpans, KeepGroups, lengths_of_parts};
 ghost use Rattle.pat_lengths.specs.Spans.{lengths_of_branches, lengths_of_condition};
 
 use crate::spans::{Span, any_length, between, either, in_turn, in_turns, only};
@@ -23,6 +25,11 @@ pub(crate) fn spans_of(
         (unset : Bool) (whole : Nested) (of_group : ℕ → SomeLengths)
         → KeepGroups unset whole of_group any groups.now
         → KeepSpans (lengths unset whole of_group) (trees tree.now.nodes) spans.items) }
+    ensures each { IfOk result (λ spans.
+        (unset : Bool) (whole : Nested) (of_group : ℕ → SomeLengths)
+        → any ≡ (unset || has_shared_number whole)
+        → EachBy (λ n. span_at groups.now n ≡ kept (of_group n))
+        (lengths unset whole of_group) (trees tree.now.nodes) spans.items) }
 {
     let mut spans = Vec::with_capacity(alloc, tree.root() as usize + 1)?;
     for id in 0..tree.root() as u64 + 1 {
@@ -32,8 +39,8 @@ pub(crate) fn spans_of(
     Ok(spans)
 }
 
-/// The lengths of a node, by those of its children.
-fn node_span(
+/// The lengths of a node, by those of its children and of the groups that it names.
+pub(crate) fn node_span(
     node: &Node,
     any: bool,
     groups: &[Option<Span>],
@@ -43,8 +50,10 @@ fn node_span(
     requires ordered { IsOrdered node.now }
     ensures { (trees : List Nested) (unset : Bool) (whole : Nested) (of_group : ℕ → SomeLengths)
         → All (λ k. is_test (tree_at trees k) ≡ true) (asserted_by node.now)
-        → KeepGroups unset whole of_group any groups.now
-        → KeepSpans (lengths unset whole of_group) trees spans.now
+        → any ≡ (unset || has_shared_number whole)
+        → All (λ n. span_at groups.now n ≡ kept (of_group n)) (names_of node.now)
+        → All (λ k. span_at spans.now k ≡ kept (lengths unset whole of_group (tree_at trees k)))
+        (kids_of node.now)
         → result ≡ kept (lengths unset whole of_group (nest trees node.now)) }
 {
     match node {
@@ -74,7 +83,8 @@ fn span_of_group(groups: &[Option<Span>], number: u16) -> Option<Span>
 /// A reference to one group is as long as the group, where no other group can stand for it.
 fn span_of_ref(named: &[u16], any: bool, groups: &[Option<Span>]) -> Option<Span>
     ensures { (unset : Bool) (whole : Nested) (of_group : ℕ → SomeLengths)
-        → KeepGroups unset whole of_group any groups.now
+        → any ≡ (unset || has_shared_number whole)
+        → All (λ n. span_at groups.now n ≡ kept (of_group n)) named.now
         → result ≡ kept (lengths.of_ref unset whole of_group named.now) }
 {
     if named.len() != 1 || any {

@@ -6,13 +6,14 @@ mod accepts;
 mod backs;
 mod behind;
 mod counts;
-mod endings;
 mod groups;
 mod kids;
 mod laws;
 mod leading;
 mod lengths;
 mod passing;
+mod ranks;
+mod rings;
 mod rounds;
 mod spans;
 

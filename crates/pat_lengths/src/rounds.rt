@@ -6,7 +6,7 @@ ghost use Rattle.pat_tree.specs.Parts.{tree_of};
 ghost use Rattle.pat_tree.specs.Rules.{kids_of, asserted_by, is_test, IsOrdered};
 ghost use Rattle.pat_lengths.specs.Nodes.{named_by, named_in};
 ghost use Rattle.pat_lengths.specs.Passing.{IsAt, flagged, place_of, passes_at, ref_passes, condition_passes, passes};
-ghost use Rattle.pat_lengths.specs.Rounds.{KeepAnswers, AreRounds, answer};
+ghost use Rattle.pat_lengths.specs.Rounds.{KeepAnswers, AreRounds, answer, group_answer};
 
 use crate::groups::Groups;
 use crate::kids::{every_flag, has_flag, some_flag, some_kid};
@@ -48,7 +48,7 @@ pub(crate) fn answers_of(
 }
 
 /// The answers after one round more.
-fn next_round(
+pub(crate) fn next_round(
     alloc: Global,
     tree: &Tree,
     places: &[Option<NodeId>],
@@ -58,9 +58,12 @@ fn next_round(
     requires places { (n : ℕ)
         → IsAt (trees tree.now.nodes) tree.now.root (place_of places.now n)
         (group_of (tree_of tree.now) n) }
-    ensures { IfOk result (λ next.
+    ensures further { IfOk result (λ next.
         (d : ℕ) → AreRounds question (tree_of tree.now) d of.now
         → AreRounds question (tree_of tree.now) (suc d) next.items) }
+    ensures round { IfOk result (λ next.
+        (n : ℕ) → flagged next.items n
+        ≡ group_answer question (flagged of.now) (group_of (tree_of tree.now) n)) }
 {
     let answers = node_answers(alloc, tree, question, of)?;
     let mut next = Vec::with_capacity(alloc, places.len())?;
@@ -99,7 +102,7 @@ pub(crate) fn node_answers(
 }
 
 /// The answer of a node, by those of its children.
-fn node_answer(node: &Node, question: Question, of: &[bool], answers: &[bool]) -> bool
+pub(crate) fn node_answer(node: &Node, question: Question, of: &[bool], answers: &[bool]) -> bool
     requires below { All (λ k. k < length answers.now) (kids_of node.now) }
     requires ordered { IsOrdered node.now }
     ensures { (trees : List Nested)

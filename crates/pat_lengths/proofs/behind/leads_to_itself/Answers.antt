@@ -21,10 +21,3 @@ returns-then-not-flag_at c =
     let answered = placed_answer Names (trees t.nodes) t.root [] names (λ n. false) place (group_of whole target)
     c.requires.count c.requires.kept (λ n. refl) (c.requires.table.places target) in
     sym (leads_nowhere whole (λ n. false) target (suc (captures whole)) target (sym answered ∙ told))
-
-pub returns-then-flag_at : goal.returns-then-flag_at
-returns-then-flag_at c =
-    let place : c.place_at-place.result ≡ place_of c.args.groups.now.places.items c.args.target =
-    c.place_at-place.ensures ∙ ap (λ xs. place_of xs c.args.target) c.deref.ensures.value in
-    sym (c.requires.ending (ap (λ p. passes_at c.args.ending.now p) (sym place) ∙ sym c.flag_at-2.ensures
-    ∙ c.if-flag_at.true))
