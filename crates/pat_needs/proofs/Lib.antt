@@ -3,3 +3,4 @@ mod LetterLemmas
 pub mod NeedLemmas
 pub mod EarlyLemmas
 pub mod TextLemmas
+pub mod ChoiceLemmas

@@ -1,6 +1,6 @@
 -- Needed texts as they are kept for each node, and with a pattern's bound.
 use Rattle.std.specs.Prelude.{◌≡◌, ◌<◌, ℕ, Bool, true, false, List, ◌++◌, All, length, Option, Some, None, IfSome}
-use Rattle.std.specs.Prelude.{slice_index_or}
+use Rattle.std.specs.Prelude.{drop, map, slice_index_or}
 use Rattle.pat_tree.specs.declared.nodes.Item.{Item}
 use Rattle.pat_tree.specs.Nested.{Nested, Row, one, row, tree_at}
 use Rattle.pat_tree.specs.Parts.{TreeParts, tree_of}
@@ -64,6 +64,12 @@ IsRun may utf ts (Some w) = (w.is_item ≡ false) × Begins may utf (sets_of w.t
 abbrev pub IsDistant : (Item → ℕ → Bool) → Bool → Row → Option Distant → Type 0
 IsDistant may utf ts None = Unit {0}
 IsDistant may utf ts (Some far) = NeedsFrom may utf (sets_of far.wanted.text) far.distance ts
+
+-- parts that take a text at once from a place on take it at the distance
+abbrev pub IsBehind : (Item → ℕ → Bool) → Bool → (ℕ → Nested) → List ℕ → ℕ → ℕ → Type 0
+IsBehind may utf of parts at distance =
+    (text : List (List Bool)) → NeedsFrom may utf text 0 (row (map of (drop at parts)))
+    → NeedsFrom may utf text distance (row (map of parts))
 
 -- the first of the parts take the text, up to those that stand behind it
 abbrev pub IsEarly : (Item → ℕ → Bool) → Bool → List Nested → Option Early → Type 0

@@ -9,8 +9,8 @@ ghost use Rattle.pat_bounds.specs.Bounds as spec;
 ghost use Rattle.pat_bounds.specs.BoundTables.{Refines, KeepBounds};
 ghost use Rattle.pat_needs.specs.NeedTables.{may_of, IsNeed, IsRun, KeepNeeds, AreNeeds, IsEarly, IsLacking};
 
-use crate::needs::{Wanted, copy_below, copy_of, only_parts, run_from};
-use crate::weights::rate;
+use crate::choice::{rarest_of, run_at};
+use crate::needs::{Wanted, copy_of, only_parts};
 use char_sets::ClassTable;
 use pat_bounds::{Bound, in_turn};
 use pat_tree::{NodeId, Tree};
@@ -95,23 +95,16 @@ fn rarest_early(parts: &[NodeId], needs: &[Option<Wanted>]) -> Option<Early>
         → AreNeeds may utf true of needs.now parts.now
         → IsEarly may utf (map of parts.now) result }
 {
-    let mut run = None;
-    let mut best = None;
-    let mut i = parts.len();
-    while i > 0 {
-        i -= 1;
-        let need = &needs[parts[i] as usize];
-        let count = parts.len() - i;
-        run = run_from(need, &run);
-        let limit = weighed_early(&best);
-        let part = early_part(need, count, limit);
-        best = rarer_early(best, part, early_run(&run, count, limit));
+    let choice = rarest_of(parts, needs, true)?;
+    let count = parts.len() - choice.at;
+    if choice.is_run {
+        return early_run(&run_at(parts, needs, choice.at), count);
     }
-    best
+    early_part(&needs[parts[choice.at] as usize], count)
 }
 
-/// What is needed of the first of so many parts, where it is rarer than so.
-fn early_part(need: &Option<Wanted>, count: usize, limit: u64) -> Option<Early>
+/// What is needed of the first of so many parts.
+fn early_part(need: &Option<Wanted>, count: usize) -> Option<Early>
     requires { 0 < count }
     ensures behind { IfSome result (λ early. early.behind ≤ count) }
     ensures takes { (may : Item → ℕ → Bool) (utf : Bool) → (t : Nested) (ts : List Nested)
@@ -119,44 +112,19 @@ fn early_part(need: &Option<Wanted>, count: usize, limit: u64) -> Option<Early>
         → IsNeed may utf true t need.now → IsEarly may utf (t ∷ ts) result }
 {
     Some(Early {
-        wanted: copy_below(need, limit)?,
+        wanted: copy_of(need)?,
         behind: count - 1,
     })
 }
 
-/// A text that items take with which so many parts begin, where it is rarer than so.
-fn early_run(run: &Option<Wanted>, count: usize, limit: u64) -> Option<Early>
+/// A text that items take with which so many parts begin.
+fn early_run(run: &Option<Wanted>, count: usize) -> Option<Early>
     ensures behind { IfSome result (λ early. early.behind ≤ count) }
     ensures takes { (may : Item → ℕ → Bool) (utf : Bool) → (t : Nested) (ts : List Nested)
         → length (t ∷ ts) ≡ count
         → IsRun may utf (row (t ∷ ts)) run.now → IsEarly may utf (t ∷ ts) result }
 {
-    let wanted = copy_below(run, limit)?;
+    let wanted = copy_of(run)?;
     let behind = count.saturating_sub(wanted.text.count());
     Some(Early { wanted, behind })
-}
-
-/// The rarest of three.
-fn rarer_early(best: Option<Early>, one: Option<Early>, other: Option<Early>) -> Option<Early>
-    ensures { (result ≡ best) ⊎ ((result ≡ one) ⊎ (result ≡ other)) }
-{
-    let (least, second, third) = (
-        weighed_early(&best),
-        weighed_early(&one),
-        weighed_early(&other),
-    );
-    if least <= second && least <= third {
-        best
-    } else if second <= third {
-        one
-    } else {
-        other
-    }
-}
-
-fn weighed_early(early: &Option<Early>) -> u64 {
-    match early {
-        Some(early) => rate(&early.wanted.weights),
-        None => u64::MAX,
-    }
 }

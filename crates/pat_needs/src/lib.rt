@@ -1,6 +1,7 @@
 //! What every match of a pattern needs: a text of which it takes one (docs/SPEED.md, "A text that every match needs").
 #![tactic(auto)]
 
+mod choice;
 mod lacking;
 mod needs;
 mod same;

@@ -12,11 +12,12 @@ ghost use Rattle.pat_needs.specs.declared.needs.Wanted.{Wanted};
 ghost use Rattle.pat_needs.specs.Needs.{may_begin, may_take, Needs, TakesOf, IsTaking, IsShort, Begins, copies};
 ghost use Rattle.pat_needs.specs.Texts.{sets_of};
 ghost use Rattle.pat_needs.specs.NeedTables.{may_of, IsNeed, IsItemNeed, IsRun, IsSomeNeed, AreAllNeeds, KeepNeeds};
-ghost use Rattle.pat_needs.specs.NeedTables.{AreNeeds, IsDistant, IsNeedOf};
+ghost use Rattle.pat_needs.specs.NeedTables.{AreNeeds, IsBehind, IsDistant, IsNeedOf};
 ghost use Rattle.pat_needs.specs.declared.lacking.Lacking.{Lacking};
 ghost use Rattle.pat_needs.specs.Distances.{IsLong, NeedsAt};
 ghost use Rattle.pat_needs.specs.declared.needs.Distant.{Distant};
 
+use crate::choice::{Choice, rarer_than, rarest_of, rate_of, run_weights, text_of, weighed};
 use crate::lacking::{Lacking, lacking_of};
 use crate::same::is_same_text;
 use crate::text::ByteText;
@@ -79,6 +80,13 @@ pub(crate) struct Wanted {
 #[derive(Drop)]
 pub(crate) struct Distant {
     pub wanted: Wanted,
+    pub distance: u16,
+}
+
+/// A text that is chosen, and how far it stands behind where the parts begin.
+#[derive(Clone, Copy)]
+pub(crate) struct Far {
+    pub choice: Choice,
     pub distance: u16,
 }
 
@@ -462,14 +470,6 @@ fn if_rare(bytes: ByteSet, is_short: bool) -> Option<Taken>
     })
 }
 
-/// How common a text is, where there is one.
-fn weighed(need: &Option<Wanted>) -> u64 {
-    match need {
-        Some(wanted) => rate(&wanted.weights),
-        None => u64::MAX,
-    }
-}
-
 /// Of what is needed of these parts, and of the texts that the items among them take, the rarest; where a match begins,
 /// of the first part and of the items from it on.
 fn rarest(parts: &[NodeId], needs: &[Option<Wanted>], anywhere: bool) -> Option<Wanted>
@@ -478,34 +478,8 @@ fn rarest(parts: &[NodeId], needs: &[Option<Wanted>], anywhere: bool) -> Option<
         → AreNeeds may utf anywhere of needs.now parts.now
         → IsSomeNeed may utf anywhere (row (map of parts.now)) result }
 {
-    let mut run = None;
-    let mut best = None;
-    // where matches begin, the run of the first three parts is all that counts
-    let mut i = if anywhere {
-        parts.len()
-    } else {
-        parts.len().min(3)
-    };
-    while i > 0 {
-        i -= 1;
-        let need = &needs[parts[i] as usize];
-        run = run_from(need, &run);
-        let earlier = kept_if(anywhere, best);
-        let limit = limit_if(anywhere || i == 0, &earlier);
-        best = rarer(earlier, copy_below(need, limit), copy_below(&run, limit));
-    }
-    best
-}
-
-fn kept_if(anywhere: bool, behind: Option<Wanted>) -> Option<Wanted>
-    ensures { result ≡ (if anywhere then behind else None) }
-{
-    if anywhere { behind } else { None }
-}
-
-/// How rare a text must be to be taken, where it counts at all.
-fn limit_if(counts: bool, best: &Option<Wanted>) -> u64 {
-    if counts { weighed(best) } else { 0 }
+    let choice = rarest_of(parts, needs, anywhere)?;
+    text_of(parts, needs, choice)
 }
 
 /// The rarest text at a distance from where a match of a pattern begins that is one sequence.
@@ -550,6 +524,21 @@ fn rarest_behind(tree: &Tree, parts: &[NodeId], begins: &[Option<Wanted>]) -> Op
         → IsDistant (may_of tree.now) tree.now.options.utf
         (row (map (tree_at (trees tree.now.nodes)) parts.now)) result }
 {
+    let far = farther(tree, parts, begins)?;
+    Some(Distant {
+        wanted: text_of(parts, begins, far.choice)?,
+        distance: far.distance,
+    })
+}
+
+/// Which that is.
+fn farther(tree: &Tree, parts: &[NodeId], begins: &[Option<Wanted>]) -> Option<Far>
+    requires parts { All (λ k. k ≤ tree.now.root) parts.now }
+    requires begins { length begins.now ≡ tree.now.root + 1 }
+    ensures { IfSome result (λ far. (far.choice.at < length parts.now)
+        × IsBehind (may_of tree.now) tree.now.options.utf (tree_at (trees tree.now.nodes)) parts.now
+        far.choice.at far.distance) }
+{
     let utf = tree.options().utf;
     let mut run = None;
     let mut best = None;
@@ -558,13 +547,33 @@ fn rarest_behind(tree: &Tree, parts: &[NodeId], begins: &[Option<Wanted>]) -> Op
         i -= 1;
         let part = parts[i];
         let need = &begins[part as usize];
-        run = run_from(need, &run);
+        run = run_weights(need, run);
         let far = behind(best, length_of(tree.node(part), utf));
-        let limit = weighed_at(&far);
-        let here = rarer(None, copy_below(need, limit), copy_below(&run, limit));
-        best = nearer(far, at_once(here));
+        let here = rarer_than(weight_of_far(&far), i, weighed(need), rate_of(run));
+        best = nearest(far, here);
     }
     best
+}
+
+fn weight_of_far(far: &Option<Far>) -> u64 {
+    match far {
+        Some(far) => far.choice.weight,
+        None => u64::MAX,
+    }
+}
+
+/// What was chosen here, else what is farther on.
+fn nearest(far: Option<Far>, here: Option<Choice>) -> Option<Far>
+    ensures { (result ≡ far)
+        ⊎ IfSome result (λ told. (here ≡ Some told.choice) × (told.distance ≡ 0)) }
+{
+    match here {
+        Some(choice) => Some(Far {
+            choice,
+            distance: 0,
+        }),
+        None => far,
+    }
 }
 
 /// A text with which a match begins.
@@ -581,18 +590,18 @@ fn at_once(wanted: Option<Wanted>) -> Option<Distant>
 }
 
 /// A text behind a part that takes so many bytes, where it isn't too far then.
-fn behind(far: Option<Distant>, length: Option<u16>) -> Option<Distant>
-    ensures { (may : Item → ℕ → Bool) (utf : Bool) → (t : Nested) (ts : Row)
-        → IfSome length (λ n. IsLong may utf n t)
-        → IsDistant may utf ts far → IsDistant may utf (more t ts) result }
+fn behind(far: Option<Far>, length: Option<u16>) -> Option<Far>
+    ensures { IfSome result (λ told. (n k : ℕ) × ((length ≡ Some n)
+        × ((told.distance ≡ n + k)
+        × (far ≡ Some (record { choice = told.choice; distance = k }))))) }
 {
     let far = far?;
     let length = length?;
     if length > FARTHEST || far.distance > FARTHEST - length {
         return None;
     }
-    Some(Distant {
-        wanted: far.wanted,
+    Some(Far {
+        choice: far.choice,
         distance: far.distance + length,
     })
 }
@@ -689,20 +698,6 @@ fn before(item: &Wanted, run: &Option<Wanted>) -> Wanted
     }
 }
 
-/// The rarest of three.
-fn rarer(best: Option<Wanted>, one: Option<Wanted>, other: Option<Wanted>) -> Option<Wanted>
-    ensures { (result ≡ best) ⊎ ((result ≡ one) ⊎ (result ≡ other)) }
-{
-    let (least, second, third) = (weighed(&best), weighed(&one), weighed(&other));
-    if least <= second && least <= third {
-        best
-    } else if second <= third {
-        one
-    } else {
-        other
-    }
-}
-
 /// What is needed of a part, told of what holds it.
 pub(crate) fn copy_of(need: &Option<Wanted>) -> Option<Wanted>
     ensures item { IfSome result (λ w. w.is_item ≡ false) }
@@ -718,20 +713,6 @@ pub(crate) fn copy_of(need: &Option<Wanted>) -> Option<Wanted>
             is_short: false,
         }),
         None => None,
-    }
-}
-
-/// The same, where the text is rarer than so: another is never taken, and isn't worth a copy.
-pub(crate) fn copy_below(need: &Option<Wanted>, limit: u64) -> Option<Wanted>
-    ensures item { IfSome result (λ w. w.is_item ≡ false) }
-    ensures some { (wanted : Wanted) → need.now ≡ Some wanted
-        → IfSome result (λ w. sets_of w.text ≡ sets_of wanted.text) }
-    ensures none { need.now ≡ None → result ≡ None }
-{
-    if weighed(need) < limit {
-        copy_of(need)
-    } else {
-        None
     }
 }
 
