@@ -49,29 +49,58 @@ entry_in_kept r ((k, e) ∷ rest) kind other h o =
 are_kept : (r : Record) → AreKept r (entry_table r)
 are_kept r = (
   inl refl,
-  inr (inr refl),
-  inr (inr refl),
-  inr (inr refl),
-  inr (inr refl),
-  inr (inr refl),
-  inr (inr refl),
-  inr (inr refl),
-  inr (inr refl),
-  inr (inr refl),
-  inr (inr refl),
-  inr (inr refl),
-  inr (inr refl),
-  inr (inr refl),
-  inr (inr refl),
-  inr (inr refl),
-  inr (inr refl),
-  inr (inr refl),
-  inr (inr refl),
-  inr (inr refl),
-  inr (inr refl),
-  inr (inr refl),
-  inr (inr refl),
-  tt,
+  (
+    inr (inr refl),
+    (
+      inr (inr refl),
+      (
+        inr (inr refl),
+        (
+          inr (inr refl),
+          (
+            inr (inr refl),
+            (
+              inr (inr refl),
+              (
+                inr (inr refl),
+                (
+                  inr (inr refl),
+                  (
+                    inr (inr refl),
+                    (
+                      inr (inr refl),
+                      (
+                        inr (inr refl),
+                        (
+                          inr (inr refl),
+                          (
+                            inr (inr refl),
+                            (
+                              inr (inr refl),
+                              (
+                                inr (inr refl),
+                                (
+                                  inr (inr refl),
+                                  (
+                                    inr (inr refl),
+                                    (inr (inr refl), (inr (inr refl), (inr (inr refl), (inr (inr refl), (inr (inr refl), tt))))),
+                                  ),
+                                ),
+                              ),
+                            ),
+                          ),
+                        ),
+                      ),
+                    ),
+                  ),
+                ),
+              ),
+            ),
+          ),
+        ),
+      ),
+    ),
+  ),
 )
 
 kept_place : (r : Record) → r.kind ≢ KIND_UNDO → r.kind ≤ KIND_LATER_TRY → (entry_kept (entry_of r)).place ≡ r.place
