@@ -149,6 +149,12 @@ module _ (kind : EndKind) (bytes : List ℕ) (before after : Told) where
         taken = consumed bytes before after phase.Open t few;
       }
 
+  end-whole : End ≢ Limit
+  end-whole e = cc
+
+  fault-whole : Fault ≢ Limit
+  fault-whole e = cc
+
   pub held-whole : (held : Held) → TakesUpTo 16777216 bytes before after came.End → held.text ≡ bytes
       → held.faulted ≡ false → HoldsInput kind before after (Ok held)
   held-whole held t text faulted =
@@ -166,6 +172,7 @@ module _ (kind : EndKind) (bytes : List ℕ) (before after : Told) where
               short = (let same = ap length text in omega (arith, same, few));
               text = text;
               faulted = faulted;
+              whole = λ e. end-whole e;
             });
         counts = subst (λ b. CountsFault b before.faults after.faults) (sym faulted) t.takes.met.0;
         taken = consumed bytes before after phase.Ended t.takes t.room;
@@ -184,7 +191,13 @@ module _ (kind : EndKind) (bytes : List ℕ) (before after : Told) where
         input = s.input;
         hears = s.hears;
         holds = subst (λ x. Holds kind x held) is
-            (record { few = few; short = omega (arith, less, few); text = text; faulted = faulted });
+            (record {
+              few = few;
+              short = omega (arith, less, few);
+              text = text;
+              faulted = faulted;
+              whole = λ e. fault-whole e;
+            });
         counts = subst (λ b. CountsFault b before.faults after.faults) (sym faulted) t.takes.met.0;
         taken = consumed bytes before after phase.Missed t.takes t.room;
       }

@@ -1,5 +1,5 @@
 -- An input that is held whole (pcre2grep, "OPTIONS", -M): what the source told → the input → the bytes that are held.
-use Rattle.std.specs.Prelude.{◌≡◌, ℕ, ◌≤◌, ◌<◌, Bool, true, false, List, ◌++◌, length, flat_map, ⊤, Result, Ok, Err}
+use Rattle.std.specs.Prelude.{◌≡◌, ◌≢◌, ℕ, ◌≤◌, ◌<◌, Bool, true, false, List, ◌++◌, length, flat_map, ⊤, Result, Ok, Err}
 use Rattle.std.specs.Io.KnownBytes.{Consumes}
 use Rattle.pcre_io.specs.Told.{Told}
 use Rattle.pcre_io.specs.Causes.{Rose}
@@ -39,6 +39,7 @@ pub record Holds (kind : EndKind) (input : Input) (held : Held) : Type 0 where
   pub short : length held.text ≤ greatest
   pub text : held.text ≡ held_by kind input.bytes input.ending
   pub faulted : held.faulted ≡ is_fault input.ending
+  pub whole : input.ending ≢ Limit
 
 -- Only want of memory may come in place of the answer that the input has.
 abbrev pub HoldsTo : EndKind → Input → Result Held HoldError → Type 0

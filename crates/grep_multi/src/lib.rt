@@ -6,5 +6,5 @@ mod cut;
 mod held;
 
 pub use blocks::{Block, Search};
-pub use cut::{LineStart, Reach};
+pub use cut::{LineStart, Reach, line_at};
 pub use held::{Held, HoldError, Text, hold};

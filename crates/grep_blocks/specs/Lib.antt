@@ -1,0 +1,4 @@
+pub mod BlockScan
+pub mod BlockText
+pub mod Steps
+pub mod Scanned

@@ -1,0 +1,10 @@
+//! What pcre2grep writes of an input that is held whole and searched by blocks of lines.
+#![tactic(auto)]
+
+mod job;
+mod lines;
+mod parts;
+mod scan;
+mod text;
+
+pub use text::grep_text;
