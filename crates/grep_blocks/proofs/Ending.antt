@@ -7,9 +7,9 @@ use Rattle.pcre_io.specs.Told.{Kept}
 use Rattle.pcre_io.specs.declared.traits.IoError.{IoError}
 use Rattle.pcre_io.specs.declared.traits.IoError.TheVariants as io
 use Rattle.line_feed.specs.Rows.{Row, Finish}
-use Rattle.grep_match.specs.Compiled.{patterns_in}
-use Rattle.grep_match.specs.Found.{Listed}
-use Rattle.grep_match.specs.Matches.{is_selected, has_error}
+use Rattle.grep_multi.specs.grep_match.Compiled.{patterns_in}
+use Rattle.grep_multi.specs.grep_match.Found.{Listed}
+use Rattle.grep_multi.specs.grep_match.Matches.{is_selected, has_error}
 use Rattle.grep_multi.specs.Blocks.{TriedBlock}
 use Rattle.grep_multi.specs.declared.blocks.Block.{Block as Lines}
 use Rattle.grep_multi.specs.declared.cut.LineStart.{LineStart}

@@ -7,8 +7,8 @@ use Rattle.std.proofs.lemmas.Bool.{cases_Bool, cases_lt, lt-ltb, le-ltb, le-leb,
 use Rattle.line_feed.specs.Rows.{Row, Finish}
 use Rattle.grep_args.specs.declared.plan.GrepPlan.{GrepPlan}
 use Rattle.pat_tree.specs.Pattern.{Pattern}
-use Rattle.grep_match.specs.Compiled.{patterns_in}
-use Rattle.grep_match.specs.Matches.{is_selected, has_error}
+use Rattle.grep_multi.specs.grep_match.Compiled.{patterns_in}
+use Rattle.grep_multi.specs.grep_match.Matches.{is_selected, has_error}
 use Rattle.grep_multi.specs.declared.cut.LineStart.{LineStart}
 use Rattle.grep_multi.specs.Blocks.{TriedBlock, blocks_from, blocks_in, first_bad, lines_before, matches_at}
 use Rattle.grep_multi.specs.Blocks.{matches_end, taken_with, unsearched}

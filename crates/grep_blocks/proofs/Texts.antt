@@ -9,10 +9,10 @@ use Rattle.byte_lanes.specs.declared.line_end.EndKind.{EndKind}
 use Rattle.line_feed.specs.Rows.{Input, Ending, Finish, At, End, Fault, Limit, input_with}
 use Rattle.grep_args.specs.declared.plan.GrepPlan.{GrepPlan}
 use Rattle.pat_tree.specs.Pattern.{Pattern}
-use Rattle.grep_match.specs.declared.modes.Mode.{Mode}
-use Rattle.grep_match.specs.Compiled.{patterns_in}
-use Rattle.grep_match.specs.Modes.{mode}
-use Rattle.grep_match.specs.PatternTexts.{line_end}
+use Rattle.grep_multi.specs.grep_match.declared.modes.Mode.{Mode}
+use Rattle.grep_multi.specs.grep_match.Compiled.{patterns_in}
+use Rattle.grep_multi.specs.grep_match.Modes.{mode}
+use Rattle.grep_multi.specs.grep_match.PatternTexts.{line_end}
 use Rattle.grep_multi.specs.Blocks.{blocks_in}
 use Rattle.grep_multi.specs.Given.{lines_at}
 use Rattle.grep_multi.specs.Held.{held_by, is_fault}

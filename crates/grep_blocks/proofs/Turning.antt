@@ -8,9 +8,9 @@ use Rattle.pcre_io.specs.declared.traits.IoError.{IoError}
 use Rattle.pcre_io.specs.declared.traits.IoError.TheVariants as io
 use Rattle.line_feed.specs.Rows.{Row}
 use Rattle.ordered_search.specs.PlaceAnswer.{Outcome}
-use Rattle.grep_match.specs.Compiled.{patterns_in}
-use Rattle.grep_match.specs.Found.{Listed, Lists, ListsMatches}
-use Rattle.grep_match.specs.Matches.{Matches, is_selected, has_error}
+use Rattle.grep_multi.specs.grep_match.Compiled.{patterns_in}
+use Rattle.grep_multi.specs.grep_match.Found.{Listed, Lists, ListsMatches}
+use Rattle.grep_multi.specs.grep_match.Matches.{Matches, is_selected, has_error}
 use Rattle.grep_multi.specs.declared.cut.LineStart.{LineStart}
 use Rattle.grep_multi.specs.Blocks.{TriedBlock}
 use Rattle.grep_multi.proofs.Cutting.{first-at, first-number}

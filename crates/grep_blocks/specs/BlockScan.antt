@@ -4,7 +4,7 @@ use Rattle.std.specs.Prelude.{ℕ, ◌+◌, Bool, true, false, nat_le, if◌then
 use Rattle.std.specs.Prelude.{flat_map, Option}
 use Rattle.line_feed.specs.Rows.{Row, Finish, row_with}
 use Rattle.grep_args.specs.declared.plan.GrepPlan.{GrepPlan}
-use Rattle.grep_match.specs.Matches.{Tried, is_selected, has_error}
+use Rattle.grep_multi.specs.grep_match.Matches.{Tried, is_selected, has_error}
 use Rattle.grep_multi.specs.Blocks.{TriedBlock}
 use Rattle.grep_output.specs.Scans.{Ended, at_finish, early, too_many_errors}
 use Rattle.grep_core.specs.Turns.{is_full}

@@ -8,9 +8,9 @@ use Rattle.grep_args.specs.declared.plan.OffsetMode.{OffsetMode}
 use Rattle.grep_args.specs.declared.plan.OffsetMode.TheVariants.{NoOffsets, Lines, File}
 use Rattle.grep_args.specs.declared.plan.GrepPlan.{GrepPlan}
 use Rattle.pat_tree.specs.Pattern.{Pattern}
-use Rattle.grep_match.specs.PatternTexts.{line_end}
-use Rattle.grep_match.specs.Matches.{is_selected}
-use Rattle.grep_match.specs.Modes.{mode}
+use Rattle.grep_multi.specs.grep_match.PatternTexts.{line_end}
+use Rattle.grep_multi.specs.grep_match.Matches.{is_selected}
+use Rattle.grep_multi.specs.grep_match.Modes.{mode}
 use Rattle.grep_multi.specs.Held.{held_by, lines_of}
 use Rattle.grep_multi.specs.Blocks.{TriedBlock, blocks, last_line, lines_before}
 use Rattle.grep_output.specs.declared.shows.Treatment.{Treatment}

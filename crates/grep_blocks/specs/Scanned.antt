@@ -3,7 +3,7 @@
 use Rattle.std.specs.Prelude.{◌≡◌, ℕ, ◌+◌, ◌≤◌, ◌<◌, ◌==◌, Bool, true, ◌&&◌, ◌||◌, nat_lt, List, [], length, drop}
 use Rattle.std.specs.Prelude.{flat_map, Result, Ok, Err}
 use Rattle.line_feed.specs.Rows.{Row, Finish}
-use Rattle.grep_match.specs.Compiled.{patterns_in}
+use Rattle.grep_multi.specs.grep_match.Compiled.{patterns_in}
 use Rattle.grep_multi.specs.declared.cut.LineStart.{LineStart}
 use Rattle.grep_multi.specs.Blocks.{TriedBlock, blocks_in}
 use Rattle.grep_output.specs.declared.ended.Ended.{Ended}

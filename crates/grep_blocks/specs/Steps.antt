@@ -3,8 +3,8 @@
 use Rattle.std.specs.Prelude.{◌≡◌, ℕ, ◌+◌, ◌≤◌, ◌<◌, ◌^◌, ◌==◌, Bool, true, false, ◌&&◌, nat_le, if◌then◌else◌, List}
 use Rattle.std.specs.Prelude.{[], ◌∷◌, ◌++◌, length, drop, Result, Ok, Err}
 use Rattle.line_feed.specs.Rows.{Row}
-use Rattle.grep_match.specs.Matches.{is_selected, has_error}
-use Rattle.grep_match.specs.Compiled.{patterns_in}
+use Rattle.grep_multi.specs.grep_match.Matches.{is_selected, has_error}
+use Rattle.grep_multi.specs.grep_match.Compiled.{patterns_in}
 use Rattle.grep_multi.specs.declared.cut.LineStart.{LineStart}
 use Rattle.grep_multi.specs.Blocks.{TriedBlock, last_line, lines_before}
 use Rattle.grep_multi.specs.Given.{lines_at}

@@ -3,7 +3,7 @@ ghost use Rattle.std.specs.Prelude.{◌≡◌, ◌≤◌, ◌<◌, ◌+◌, ◌�
 ghost use Rattle.ordered_search.specs.Forward.{IsWithin};
 ghost use Rattle.ordered_search.specs.PlaceAnswer.{Outcome};
 ghost use Rattle.line_feed.specs.Rows.{Row};
-ghost use Rattle.grep_match.specs.Found.{Lists, groups_of, place_of};
+ghost use Rattle.grep_multi.specs.grep_match.Found.{Lists, groups_of, place_of};
 ghost use Rattle.tool_io.specs.Writes.{Writes};
 ghost use Rattle.grep_blocks.specs.BlockText.{match_out, matches_out};
 ghost use Rattle.grep_blocks.specs.Steps.{IsLineOf, IsOnward, IsStart, rows_at};
@@ -11,8 +11,7 @@ ghost use Rattle.grep_blocks.specs.Steps.{IsLineOf, IsOnward, IsStart, rows_at};
 use crate::job::Job;
 use frame_store::Span;
 use grep_args::OffsetMode;
-use grep_match::{MatchList, Place};
-use grep_multi::{LineStart, line_at};
+use grep_multi::{LineStart, MatchList, Place, line_at};
 use grep_output::{write_in_line, write_match};
 use line_feed::Line;
 use pcre_io::{IoError, Sink};

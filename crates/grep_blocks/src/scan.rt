@@ -6,9 +6,9 @@ ghost use Rattle.grep_output.specs.Shows.{lines_after};
 ghost use Rattle.std.specs.Str.{is_utf8};
 ghost use Rattle.line_feed.specs.Rows.{Finish, Row};
 ghost use Rattle.ordered_search.specs.PlaceAnswer.{Outcome};
-ghost use Rattle.grep_match.specs.Compiled.{patterns_in};
-ghost use Rattle.grep_match.specs.Found.{Lists, ListsMatches};
-ghost use Rattle.grep_match.specs.Matches.{is_selected};
+ghost use Rattle.grep_multi.specs.grep_match.Compiled.{patterns_in};
+ghost use Rattle.grep_multi.specs.grep_match.Found.{Lists, ListsMatches};
+ghost use Rattle.grep_multi.specs.grep_match.Matches.{is_selected};
 ghost use Rattle.grep_multi.specs.Blocks.{TriedBlock};
 ghost use Rattle.grep_multi.specs.Given.{Gives, IsSearch};
 ghost use Rattle.grep_core.specs.Turns.{is_full};
@@ -22,8 +22,7 @@ ghost use Rattle.grep_blocks.specs.Steps.{IsGap, IsStart, TakesBlock, all_rows, 
 use crate::job::{Course, Job, Next};
 use crate::lines::{has_lines, write_block, write_gap, write_rest};
 use crate::parts::write_parts;
-use grep_match::{MatchList, Verdict, Workspace};
-use grep_multi::{Block, LineStart};
+use grep_multi::{Block, LineStart, MatchList, Verdict, Workspace};
 use grep_output::{Ended, Show, Stop, write_error};
 use pcre_io::{IoError, Sink};
 

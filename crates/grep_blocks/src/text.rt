@@ -3,8 +3,8 @@ ghost use Rattle.std.specs.Prelude.{◌≡◌, ◌+◌, ◌≤◌, ◌<◌, ◌^
 ghost use Rattle.std.specs.Str.{is_utf8};
 ghost use Rattle.line_feed.specs.Rows.{At, End, Ending, Fault, Finish, Input, input_with};
 ghost use Rattle.grep_output.specs.Course.{is_lines};
-ghost use Rattle.grep_match.specs.Compiled.{patterns_in};
-ghost use Rattle.grep_match.specs.PatternTexts.{line_end};
+ghost use Rattle.grep_multi.specs.grep_match.Compiled.{patterns_in};
+ghost use Rattle.grep_multi.specs.grep_match.PatternTexts.{line_end};
 ghost use Rattle.grep_multi.specs.Given.{IsSearch};
 ghost use Rattle.grep_multi.specs.Held.{Holds};
 ghost use Rattle.grep_output.specs.Ends.{ended_of};
@@ -21,8 +21,7 @@ ghost use Rattle.grep_blocks.specs.Scanned.{CountsTo, begun_at, scan_at, scan_by
 use crate::job::{Course, Job};
 use crate::scan::scan;
 use grep_args::GrepPlan;
-use grep_match::{Mode, Patterns, Workspace, mode_of};
-use grep_multi::{Held, LineStart, Search};
+use grep_multi::{Held, LineStart, Mode, Patterns, Search, Workspace, mode_of};
 use grep_output::{
     Ended, FileEnd, Show, State, Stop, Treatment, most_selected, show_in, tells_binary,
     treatment_by, write_ended, write_summary, write_too_many,

@@ -2,6 +2,7 @@
 use Rattle.std.proofs.Common.{◌≡◌, ◌∙◌, inl, ℕ, ◌+◌, ◌-◌, ◌<◌, ◌≤◌, true, false}
 use Rattle.std.proofs.Common.{List, [], ◌∷◌, ◌++◌, length, take, drop, slice_range, refl, sym, ap, subst, arith}
 use Rattle.std.proofs.Common.{⊎_elim, append-nil, append_assoc, length-append, length-drop, Ok, Err, take-add}
+use Rattle.std.proofs.Common.{Result}
 use Rattle.std.proofs.lemmas.Bool.{cases_lt, both_ways}
 use Rattle.std.proofs.lemmas.List.{take_all, take-append-drop}
 use Rattle.std.proofs.Math.Seq.{take-append_seam}
@@ -18,9 +19,10 @@ use Rattle.line_feed.specs.declared.phase.Phase.{Phase}
 use Rattle.line_feed.specs.declared.phase.Phase.TheVariants as phase
 use Rattle.grep_multi.specs.declared.held.Came.TheVariants as came
 use Rattle.grep_multi.specs.declared.held.Held.{Held}
+use Rattle.grep_multi.specs.declared.held.HoldError.{HoldError}
 use Rattle.grep_multi.specs.declared.held.HoldError.TheVariants.{TooLarge, Memory}
 use Rattle.grep_multi.specs.Taken.{Takes, TakesUpTo}
-use Rattle.grep_multi.specs.Held.{bytes_of, lines_of, held_by, HoldsInput, Holds, CountsFault}
+use Rattle.grep_multi.specs.Held.{bytes_of, lines_of, held_by, HoldsInput, Holds, CountsFault, IsGone}
 use Rattle.grep_multi.proofs.Taking.{takes-stands}
 
 -- these bytes were passed over, all of whole lines
@@ -119,10 +121,10 @@ module _ (kind : EndKind) (bytes rest : List ℕ) (p : Passed kind bytes rest) w
 -- what is held of the input
 
 consumed : (bytes : List ℕ) (before after : Told) (p : Phase) → Takes [] bytes before after p
-    → length bytes ≤ 16842752
-    → (l : List ℕ) × Consumes before.left after.left l × (length l ≤ 16842752)
-consumed bytes before after p t few =
-    (bytes, subst (Consumes before.left after.left) (sym t.all) t.left, few)
+    → length bytes ≤ 16842752 → (size : ℕ) (result : Result Held HoldError) → IsGone (length bytes) size result
+    → (l : List ℕ) × Consumes before.left after.left l × (length l ≤ 16842752) × IsGone (length l) size result
+consumed bytes before after p t few size result gone =
+    (bytes, subst (Consumes before.left after.left) (sym t.all) t.left, few, gone)
 
 module _ (kind : EndKind) (bytes : List ℕ) (before after : Told) where
   pub too-large : TakesUpTo 16777216 bytes before after came.More → HoldsInput kind before after (Err TooLarge)
@@ -134,7 +136,7 @@ module _ (kind : EndKind) (bytes : List ℕ) (before after : Told) where
         holds = (let long = ap length s.bytes in let most = t.more refl in
             omega (arith, long, most, length-append bytes s.more));
         counts = t.takes.met.0;
-        taken = consumed bytes before after phase.Open t.takes t.room;
+        taken = consumed bytes before after phase.Open t.takes t.room (length s.input.bytes) (Err TooLarge) tt;
       }
 
   pub no-memory : Takes [] bytes before after phase.Open → length bytes ≤ 16777216 + 65536
@@ -146,7 +148,7 @@ module _ (kind : EndKind) (bytes : List ℕ) (before after : Told) where
         hears = s.hears;
         holds = tt;
         counts = t.met.0;
-        taken = consumed bytes before after phase.Open t few;
+        taken = consumed bytes before after phase.Open t few (length s.input.bytes) (Err Memory) tt;
       }
 
   end-whole : End ≢ Limit
@@ -175,7 +177,8 @@ module _ (kind : EndKind) (bytes : List ℕ) (before after : Told) where
               whole = λ e. end-whole e;
             });
         counts = subst (λ b. CountsFault b before.faults after.faults) (sym faulted) t.takes.met.0;
-        taken = consumed bytes before after phase.Ended t.takes t.room;
+        taken = consumed bytes before after phase.Ended t.takes t.room (length s.input.bytes) (Ok held)
+            (let same = ap length all in omega (arith, same));
       }
 
   pub held-part : (held : Held) → TakesUpTo 16777216 bytes before after came.Failed
@@ -199,5 +202,6 @@ module _ (kind : EndKind) (bytes : List ℕ) (before after : Told) where
               whole = λ e. fault-whole e;
             });
         counts = subst (λ b. CountsFault b before.faults after.faults) (sym faulted) t.takes.met.0;
-        taken = consumed bytes before after phase.Missed t.takes t.room;
+        taken = consumed bytes before after phase.Missed t.takes t.room (length s.input.bytes) (Ok held)
+            (let same = ap length all in omega (arith, same));
       }

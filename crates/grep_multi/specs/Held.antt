@@ -56,6 +56,11 @@ abbrev pub Counts : Told → Told → Result Held HoldError → Type 0
 Counts before after (Ok held) = CountsFault held.faulted before.faults after.faults
 Counts before after (Err e) = after.faults ≡ before.faults
 
+-- no more than the input was taken, where it is held
+abbrev pub IsGone : ℕ → ℕ → Result Held HoldError → Type 0
+IsGone taken size (Ok held) = taken ≤ size
+IsGone taken size (Err e) = ⊤
+
 -- The input that a source stood for is held, or is refused; at most 16,842,752 bytes were taken.
 pub record HoldsInput (kind : EndKind) (before after : Told) (result : Result Held HoldError)
     : Type 0 where
@@ -64,3 +69,4 @@ pub record HoldsInput (kind : EndKind) (before after : Told) (result : Result He
   pub holds : HoldsTo kind input result
   pub counts : Counts before after result
   pub taken : (bytes : List ℕ) × Consumes before.left after.left bytes × (length bytes ≤ 16842752)
+      × IsGone (length bytes) (length input.bytes) result

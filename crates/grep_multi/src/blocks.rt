@@ -18,7 +18,7 @@ use grep_match::{
     Answer, Patterns, Verdict, Workspace, first_answer, limits, line_end, shows_each,
 };
 use pcre_io::Memory;
-use pcre2_api::MatchOptions;
+use pat_tree::MatchOptions;
 use uni_text::check;
 
 /// The match error of a text that isn't UTF-8.

@@ -1,8 +1,7 @@
 //! Blocks of lines in a text that is held.
 use grep_args::{GrepPlan, read};
 use grep_core::Patterns;
-use grep_match::{Verdict, Workspace};
-use grep_multi::{Block, LineStart, Reach, Search};
+use grep_multi::{Block, LineStart, Reach, Search, Verdict, Workspace};
 use std::alloc::Global;
 use std::test::Fail;
 

@@ -2,7 +2,7 @@ use Rattle.std.proofs.Common.{◌≡◌, ◌≢◌, ◌∙◌, ◌-◌, refl, sy
 use Rattle.line_feed.specs.Lines.{row_of}
 use Rattle.line_feed.specs.Rows.{Row}
 use Rattle.grep_args.specs.declared.plan.OffsetMode.TheVariants.{Lines}
-use Rattle.grep_match.specs.declared.found.Place.{Place}
+use Rattle.grep_multi.specs.grep_match.declared.found.Place.{Place}
 use Rattle.grep_output.specs.Texts.{match_text}
 use Rattle.tool_io.proofs.Writing.{writes-same}
 use Rattle.grep_blocks.specs.BlockText.{match_out, moved, text_row}

@@ -4,8 +4,8 @@ use Rattle.std.proofs.lemmas.List.{drop_more, drop_all}
 use Rattle.frame_store.specs.declared.registers.Span.{Span}
 use Rattle.ordered_search.specs.Forward.{IsWithin}
 use Rattle.ordered_search.specs.PlaceAnswer.{Outcome}
-use Rattle.grep_match.specs.Found.{groups_of}
-use Rattle.grep_match.specs.declared.found.Place.{Place}
+use Rattle.grep_multi.specs.grep_match.Found.{groups_of}
+use Rattle.grep_multi.specs.grep_match.declared.found.Place.{Place}
 use Rattle.grep_multi.specs.Blocks.{last_line, lines_before}
 use Rattle.grep_multi.proofs.Cutting.{first-at}
 use Rattle.tool_io.specs.Writes.{Writes}

@@ -1,7 +1,7 @@
 use Rattle.std.proofs.Common.{◌≡◌, List, ◌∷◌, drop, length, flat_map}
 use Rattle.line_feed.specs.Rows.{Row}
 use Rattle.ordered_search.specs.PlaceAnswer.{Outcome}
-use Rattle.grep_match.specs.Found.{Lists, groups_of}
+use Rattle.grep_multi.specs.grep_match.Found.{Lists, groups_of}
 use Rattle.tool_io.proofs.Writing.{IsLeft}
 use Rattle.grep_blocks.specs.BlockText.{matches_out}
 use Rattle.grep_blocks.specs.Steps.{IsOnward, rows_at}

@@ -1,9 +1,9 @@
 use Rattle.std.proofs.Common.{◌≡◌, ◌∙◌, Ok, Err, refl, sym, ap, subst, rules}
 use Rattle.std.specs.Prelude.{if◌then◌else◌}
 use Rattle.line_feed.specs.Rows.{Input, At, End, Fault}
-use Rattle.grep_match.specs.Compiled.{patterns_in}
-use Rattle.grep_match.specs.Modes.{mode}
-use Rattle.grep_match.specs.PatternTexts.{line_end}
+use Rattle.grep_multi.specs.grep_match.Compiled.{patterns_in}
+use Rattle.grep_multi.specs.grep_match.Modes.{mode}
+use Rattle.grep_multi.specs.grep_match.PatternTexts.{line_end}
 use Rattle.grep_multi.specs.Held.{Holds}
 use Rattle.grep_output.specs.declared.ended.Stop.TheVariants.{SinkFault, TooManyErrors, Memory}
 use Rattle.grep_output.specs.Ends.{ended_of, stop_of}
