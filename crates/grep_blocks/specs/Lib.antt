@@ -1,3 +1,4 @@
+pub use Rattle.grep_multi.specs as grep_multi
 pub mod BlockScan
 pub mod BlockText
 pub mod Steps

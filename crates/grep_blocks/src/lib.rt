@@ -7,4 +7,5 @@ mod parts;
 mod scan;
 mod text;
 
+pub use grep_multi::{HoldError, hold, line_end};
 pub use text::grep_text;
