@@ -27,7 +27,9 @@ fn is_block(block: Block, verdict: Verdict, at: usize, lines: u64) -> bool {
 fn a_match_takes_the_lines_that_it_goes_over(rt: HostRuntime) -> Result<(), Fail> {
     let alloc = rt.alloc();
     let plan = plan_of(alloc, "o\nb")?;
-    let patterns = Patterns::build(alloc, &plan, &plan.patterns).ok().ok_or("pattern")?;
+    let patterns = Patterns::build(alloc, &plan, &plan.patterns)
+        .ok()
+        .ok_or("pattern")?;
     let text = b"foo\nbar\nbaz\n";
     let search = Search::new(&plan, &patterns, text);
     let mut work = Workspace::new(alloc);
@@ -35,7 +37,10 @@ fn a_match_takes_the_lines_that_it_goes_over(rt: HostRuntime) -> Result<(), Fail
     let first = search.next(START, &mut work).ok().ok_or("memory")?;
     assert!(rt; is_block(first, Verdict::Match, 8, 2));
     assert!(rt; first.reach.behind.at < text.len());
-    let second = search.next(first.reach.behind, &mut work).ok().ok_or("memory")?;
+    let second = search
+        .next(first.reach.behind, &mut work)
+        .ok()
+        .ok_or("memory")?;
     assert!(rt; is_block(second, Verdict::NoMatch, 12, 3));
     Ok(())
 }
