@@ -62,7 +62,7 @@ line-step kind most number offset rest k some room is =
     (cases_lt k (length rest))
 
 -- where it ends
-line-end : (kind : EndKind) (number offset : ℕ) (rest : List ℕ) (k : ℕ) → k ≤ length rest
+pub line-end : (kind : EndKind) (number offset : ℕ) (rest : List ℕ) (k : ℕ) → k ≤ length rest
     → end_of (first_line kind number offset rest k) ≡ offset + (k + newline_len kind rest k)
 line-end kind number offset rest k within =
     let n = newline_len kind rest k in

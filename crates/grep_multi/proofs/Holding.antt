@@ -1,5 +1,5 @@
 -- The whole lines before a read that failed, and the input that is held.
-use Rattle.std.proofs.Common.{◌≡◌, ◌∙◌, inl, ℕ, ◌+◌, ◌-◌, ◌<◌, ◌≤◌, true, false}
+use Rattle.std.proofs.Common.{◌≡◌, ◌≢◌, ◌∙◌, inl, ℕ, ◌+◌, ◌-◌, ◌<◌, ◌≤◌, true, false}
 use Rattle.std.proofs.Common.{List, [], ◌∷◌, ◌++◌, length, take, drop, slice_range, refl, sym, ap, subst, arith}
 use Rattle.std.proofs.Common.{⊎_elim, append-nil, append_assoc, length-append, length-drop, Ok, Err, take-add}
 use Rattle.std.proofs.Common.{Result}
