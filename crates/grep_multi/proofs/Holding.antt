@@ -9,7 +9,7 @@ use Rattle.std.proofs.Math.Seq.{take-append_seam}
 use Rattle.byte_lanes.specs.declared.line_end.EndKind.{EndKind}
 use Rattle.byte_lanes.specs.Newlines.{newline_len}
 use Rattle.byte_lanes.proofs.lemmas.NewlineLemmas.{rest_whole}
-use Rattle.line_feed.specs.Rows.{Row, Rows, Ending, End, Fault, first_newline, has_no_row, rows_from}
+use Rattle.line_feed.specs.Rows.{Row, Rows, Ending, End, Fault, Limit, first_newline, has_no_row, rows_from}
 use Rattle.line_feed.proofs.Newlines.{newline-within}
 use Rattle.line_feed.proofs.RowLemmas.{first-least, no_row-true, rows-rest, rows-row, last-cut, sure-len}
 use Rattle.std.specs.Io.KnownBytes.{Consumes}
