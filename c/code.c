@@ -439,6 +439,16 @@ static int tell_place(const uint8_t *place, void *where) {
   return where ? 0 : (int)sizeof place;
 }
 
+/* The first code unit of each match, or -1; of an anchored pattern none is told. */
+static int32_t first_unit(const pcre2_code *c) {
+  struct shared *s = c->shared;
+  if (!s || c->told.anchored) return -1;
+  pthread_mutex_lock(&s->lock);
+  int32_t first = door_first_byte(&s->handle);
+  pthread_mutex_unlock(&s->lock);
+  return first;
+}
+
 int pcre2_pattern_info(const pcre2_code *c, uint32_t what, void *where) {
   static const pcre2_code none; /* the size of an answer is told without a code */
   if (!c && where) return PCRE2_ERROR_NULL;
@@ -466,9 +476,10 @@ int pcre2_pattern_info(const pcre2_code *c, uint32_t what, void *where) {
   case PCRE2_INFO_HASCRORLF: return tell_number(has_cr_or_lf(c), where);
   case PCRE2_INFO_HASBACKSLASHC: return tell_number(0, where);
   case PCRE2_INFO_MINLENGTH: return tell_number(c != &none && !c->told.can_be_empty, where);
-  case PCRE2_INFO_FIRSTCODETYPE: /* hints: nothing is known */
+  case PCRE2_INFO_FIRSTCODETYPE: return tell_number(first_unit(c) >= 0, where);
   case PCRE2_INFO_FIRSTCODEUNIT:
-  case PCRE2_INFO_LASTCODETYPE:
+    return tell_number(first_unit(c) >= 0 ? (uint32_t)first_unit(c) : 0, where);
+  case PCRE2_INFO_LASTCODETYPE: /* hints: nothing is known */
   case PCRE2_INFO_LASTCODEUNIT:
   case PCRE2_INFO_BACKREFMAX: return tell_number(0, where);
   case PCRE2_INFO_MATCHLIMIT: return tell_limit(c->told.limits, c->told.match_limit, where);

@@ -24,6 +24,7 @@ struct door_match_asked {
   bool anchored, endanchored, notbol, noteol, notempty, notempty_atstart, dfa_shortest;
   uint8_t partial;
   uint32_t match_limit, frame_limit;
+  uint64_t offset_limit;
 };
 
 struct door_subst_asked {
@@ -92,6 +93,7 @@ struct door_subst_answer door_replace(struct door_handle *, const uint8_t *subje
                                       size_t replacement_len, uint8_t *out, size_t room);
 int32_t door_share(struct door_handle *, struct door_handle *other);
 struct door_told door_info(struct door_handle *);
+int32_t door_first_byte(struct door_handle *);
 struct door_named door_name(struct door_handle *, size_t i, uint8_t *out, size_t room);
 size_t door_mark(struct door_handle *, uint32_t id, uint8_t *out, size_t room);
 size_t door_fault_text(int32_t number, uint8_t *out, size_t room);

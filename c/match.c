@@ -99,6 +99,7 @@ struct door_match_asked match_asked(uint32_t o, const pcre2_match_context *with,
                                           : 0,
       .match_limit = with->match_limit,
       .frame_limit = units > UINT32_MAX ? UINT32_MAX : (uint32_t)units,
+      .offset_limit = with->offset_limit,
   };
 }
 
@@ -214,10 +215,10 @@ int pcre2_match(const pcre2_code *c, PCRE2_SPTR subject, size_t len, size_t star
   bool by_runs = c->options & PCRE2_MATCH_INVALID_UTF;
   size_t from = by_runs || !s.checked ? part_from(m, start) : 0;
   s.asked.notbol = s.asked.notbol || from > 0;
-  int rc = by_runs ? search_runs(&s, from, start) : search_part(&s, from, start);
-  if ((rc >= 0 || rc == PCRE2_ERROR_PARTIAL) && m->startchar > with->offset_limit)
-    rc = PCRE2_ERROR_NOMATCH;
-  m->rc = finish(m, rc, options);
+  if (with->offset_limit < from) return m->rc = PCRE2_ERROR_NOMATCH;
+  if (with->offset_limit != PCRE2_UNSET)
+    s.asked.offset_limit -= from; /* the door counts from there */
+  m->rc = finish(m, by_runs ? search_runs(&s, from, start) : search_part(&s, from, start), options);
   return m->rc;
 }
 
@@ -266,9 +267,6 @@ int pcre2_dfa_match(const pcre2_code *c, PCRE2_SPTR subject, size_t len, size_t 
   if (c->options & PCRE2_MATCH_INVALID_UTF) return m->rc = PCRE2_ERROR_DFA_UINVALID_UTF;
   bool by_depth;
   struct door_match_asked asked = match_asked(options, with, &by_depth);
-  int rc = search_ends(m, start, &asked, by_depth);
-  if ((rc >= 0 || rc == PCRE2_ERROR_PARTIAL) && m->startchar > with->offset_limit)
-    rc = PCRE2_ERROR_NOMATCH;
-  m->rc = finish(m, rc, options);
+  m->rc = finish(m, search_ends(m, start, &asked, by_depth), options);
   return m->rc;
 }

@@ -33,8 +33,22 @@ static int utf_fault(const struct part *subject, const struct part *by) {
   return at < by->len ? character_fault(by->bytes + at, by->len - at, &n) : PCRE2_ERROR_UTF8_ERR1;
 }
 
-/* The count of replacements, or why there are none; the room's length becomes the text's, without
- * its closing zero. */
+/* The count of replacements, where there is room for a text of so many bytes and a zero; the room's
+ * length becomes the text's. */
+static int tell(uint64_t count, size_t len, uint32_t options, uint8_t *out, size_t *room) {
+  size_t most = *room;
+  *room = PCRE2_UNSET;
+  if (count > INT_MAX) return PCRE2_ERROR_TOOMANYREPLACE;
+  if (len >= most) {
+    if (options & PCRE2_SUBSTITUTE_OVERFLOW_LENGTH) *room = len + 1;
+    return PCRE2_ERROR_NOMEMORY;
+  }
+  out[len] = 0;
+  *room = len;
+  return (int)count;
+}
+
+/* The count of replacements, or why there are none. */
 static int replace(pcre2_match_data *m, const struct part *subject, size_t start, uint32_t options,
                    const pcre2_match_context *with, const struct part *by, uint8_t *out,
                    size_t *room) {
@@ -45,17 +59,31 @@ static int replace(pcre2_match_data *m, const struct part *subject, size_t start
   struct door_subst_asked how = asked_of(options);
   struct door_subst_answer a = door_replace(&m->own, subject->bytes, subject->len, start, &asked,
                                             &how, by->bytes, by->len, most ? out : none, most);
+  if (a.code == 0) return tell(a.count, a.len, options, out, room);
   *room = PCRE2_UNSET;
-  if (a.code == PCRE2_ERROR_UTF8_ERR1) return utf_fault(subject, by);
-  if (a.code != 0) return limit_code(a.code, by_depth);
-  if (a.count > INT_MAX) return PCRE2_ERROR_TOOMANYREPLACE;
-  if (a.len >= most) {
-    if (options & PCRE2_SUBSTITUTE_OVERFLOW_LENGTH) *room = a.len + 1;
-    return PCRE2_ERROR_NOMEMORY;
-  }
-  out[a.len] = 0;
-  *room = a.len;
-  return (int)a.count;
+  return a.code == PCRE2_ERROR_UTF8_ERR1 ? utf_fault(subject, by) : limit_code(a.code, by_depth);
+}
+
+/* The subject with nothing replaced. */
+static int keep(const struct part *subject, uint32_t options, uint8_t *out, size_t *room) {
+  size_t len = options & PCRE2_SUBSTITUTE_REPLACEMENT_ONLY ? 0 : subject->len;
+  if (len < *room) memcpy(out, subject->bytes, len);
+  return tell(0, len, options, out, room);
+}
+
+/* Under an offset limit a first match behind it isn't replaced. Whether a further one is isn't told
+ * by the door. */
+static int replace_limited(pcre2_match_data *m, const struct part *subject, size_t start,
+                           uint32_t options, pcre2_match_context *with, const struct part *by,
+                           uint8_t *out, size_t *room) {
+  int rc = PCRE2_ERROR_BADOFFSETLIMIT;
+  if (!(options & PCRE2_SUBSTITUTE_GLOBAL))
+    rc =
+        pcre2_match(m->code, subject->bytes, subject->len, start, options & MATCH_OPTIONS, m, with);
+  if (rc == PCRE2_ERROR_NOMATCH) return keep(subject, options, out, room);
+  if (rc >= 0) return replace(m, subject, start, options, with, by, out, room);
+  *room = PCRE2_UNSET;
+  return rc;
 }
 
 int pcre2_substitute(const pcre2_code *c, PCRE2_SPTR subject, size_t len, size_t start,
@@ -77,7 +105,9 @@ int pcre2_substitute(const pcre2_code *c, PCRE2_SPTR subject, size_t len, size_t
   if (rc == 0) {
     if (by_len == PCRE2_ZERO_TERMINATED) by_len = strlen((const char *)by);
     struct part text = {subject, len}, replacement = {by ? by : nothing, by_len};
-    rc = replace(m, &text, start, options, with, &replacement, out, room);
+    rc = with->offset_limit == PCRE2_UNSET
+             ? replace(m, &text, start, options, with, &replacement, out, room)
+             : replace_limited(m, &text, start, options, mc, &replacement, out, room);
   } else {
     *room = PCRE2_UNSET;
   }

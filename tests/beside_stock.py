@@ -4,10 +4,13 @@
     tests/beside_stock.py [PATTERNS [SEED]]
 
 STOCK and OURS name the two libraries. Start optimisations are off in both, since they change marks and limits. What
-differs is written, and then counted."""
+differs is counted by the reason that is known for it (REASONS), and where none is known it is written too, SHOWN times
+of each kind (10). Each match is also held to what is told of the first code unit. Ends with status 1 where a difference
+has no known reason."""
 import ctypes
 import os
 import random
+import re
 import sys
 
 TOP = os.path.dirname(os.path.dirname(os.path.abspath(__file__)))
@@ -20,9 +23,11 @@ OPTIONS = [0x8, 0x400, 0x20, 0x80000, 0xA0000, 0x80, 0x80000000, 0x10, 0x40000, 
 MATCH_OPTIONS = [0x1, 0x2, 0x4, 0x8, 0x10, 0x20, 0x80000000]
 PARTIAL = 0x30
 INFO = {"groups": 4, "names": 17, "entry": 18, "empty": 13}
+FIRST, FIRST_TYPE = 5, 6
 LIMITS = {-47, -52, -53, -63}
 NOT_BUILT = {195}
 NO_DFA = {-40, -42, -43}
+SHOWN = int(os.environ.get("SHOWN", "10"))
 
 ITEMS = r"""a b c x ab . \d \w \s \b \B ^ $ [ab] [^a] [a-c\d] \W é \x41 \h \R \N [[:alpha:]] \p{L}
 \P{Lu} \A \z \Z \G A B 1
@@ -36,6 +41,78 @@ PIECES = ["a", "b", "c", "x", "A", "B", "1", "2", " ", "\n", "é", "ü", "aa", "
 BAD_PIECES = [b"\xff", b"\xe2\x82", b"\xc3", b"\x80"]
 MATCH_INVALID_UTF = 0x04000000
 REPLACEMENTS = [b"<$0>", b"[${1}]", b"$$-$1", b"x"]
+
+ENDANCHORED, NOT_EMPTY, ENDONLY, MULTILINE = 0x20000000, 0xC, 0x10, 0x400
+LOOKS = rb"\(\?<?[=!]"
+
+# Why the libraries differ, by what is tried: a sentence, and the test of pattern, options, subject, start, options of
+# the match, and the two answers. "We" are this library.
+REASONS = {
+    "compiles": (
+        ("We refuse a branch of a lookbehind with an ACCEPT, with a part behind a FAIL that has no length, or with a "
+         "condition of one branch that isn't empty; a repeat of what is empty we take.",
+         lambda p, o, a, b: re.search(rb"\(\?<[=!]", p) and 125 in (a[0], b[0])),
+        ("We take no comment between a quantifier and its ? or +.",
+         lambda p, o, a, b: b[0] == 109 and re.search(rb"\(\?#c\)[?+]", p)),
+    ),
+    "fault": (
+        ("We look for the faults in another order, and tell places of our own.", lambda p, o, a, b: True),
+    ),
+    "info": (
+        ("MATCHEMPTY: we say that a pattern with an ACCEPT can be empty.",
+         lambda p, o, a, b: b"(*ACCEPT)" in p and (a["empty"], b["empty"]) == (0, 1)),
+        ("MATCHEMPTY: PCRE2 says so of calls and references that can't be.",
+         lambda p, o, a, b: re.search(rb"\(\?[R1]|\\[12gk]", p) and (a["empty"], b["empty"]) == (1, 0)),
+    ),
+    "partial match": (
+        (r"Empty at the subject's end: PCRE2 tells it for each pattern with \b, \B or \A, and behind $, \z and \Z.",
+         lambda p, o, s, at, m, x, y: x == (-2, [len(s)] * 2) and re.search(rb"\$|\\[bBAzZ]", p)),
+        ("Empty at the subject's end: we tell it for a lookbehind of no length and for an ACCEPT too.",
+         lambda p, o, s, at, m, x, y: y == (-2, [len(s)] * 2) and (b"(?<" in p or b"(*ACCEPT)" in p)),
+        ("PCRE2 tests .{n} under DOTALL as one, and so doesn't meet the subject's end within it.",
+         lambda p, o, s, at, m, x, y: y[0] == -2 and b".{" in p and (o & 0x20 or b"(?s" in p)),
+        ("PCRE2 meets the subject's end by a reference to a group that is unset.",
+         lambda p, o, s, at, m, x, y: x[0] == -2 and re.search(rb"\\[12gk]", p)),
+    ),
+    "ends": (
+        ("ENDANCHORED: PCRE2 tells ends before the subject's too.",
+         lambda p, o, s, at, m, x, y: (o | m) & ENDANCHORED),
+        ("An atomic group goes on from its furthest end alone, in PCRE2 sometimes from another.",
+         lambda p, o, s, at, m, x, y: re.search(rb"\(\?>|[*+?}]\+", p)),
+        (r"\G in a lookaround: in PCRE2 it holds where the lookaround begins.",
+         lambda p, o, s, at, m, x, y: b"\\G" in p and re.search(LOOKS, p)),
+        ("NOTEMPTY: in PCRE2 no lookaround is met by an empty text either.",
+         lambda p, o, s, at, m, x, y: m & NOT_EMPTY and re.search(LOOKS, p)),
+        ("DOLLAR_ENDONLY: PCRE2 heeds it under MULTILINE too.",
+         lambda p, o, s, at, m, x, y: o & ENDONLY and o & MULTILINE and b"$" in p),
+    ),
+    "match": (
+        ("PCRE2 answers -999, which is a number of its insides.",
+         lambda p, o, s, at, m, x, y: x[0] == -999 and b"(*ACCEPT)" in p),
+        ("NOTEMPTY: an empty match by an ACCEPT in an atomic group is refused: PCRE2 goes on in the group.",
+         lambda p, o, s, at, m, x, y: m & NOT_EMPTY and b"(*ACCEPT)" in p and re.search(rb"\(\?>|[*+?}]\+", p)),
+        ("PCRE2 doesn't go back into a call of the whole pattern.",
+         lambda p, o, s, at, m, x, y: b"(?R)" in p),
+    ),
+    "match in bad UTF": (
+        ("The start is inside a character, which lookbehinds see here alone.",
+         lambda p, o, s, at, m, x, y: at < len(s) and 0x80 <= s[at] < 0xC0),
+    ),
+    "substitution": (
+        ("An empty match by an ACCEPT in an atomic group is refused: PCRE2 goes on in the group.",
+         lambda p, o, s, at, m, by, x, y: b"(*ACCEPT)" in p and re.search(rb"\(\?>|[*+?}]\+", p)),
+        (r"\G in a lookaround behind an empty match: PCRE2 goes on from elsewhere.",
+         lambda p, o, s, at, m, by, x, y: b"\\G" in p and re.search(LOOKS, p)),
+        ("PCRE2 doesn't go back into a call of the whole pattern.",
+         lambda p, o, s, at, m, by, x, y: b"(?R)" in p),
+    ),
+}
+REASONS["match in bad UTF"] += REASONS["match"]
+REASONS["partial ends"] = REASONS["partial match"] + REASONS["ends"] + (
+    ("We ask all ways whether they meet the subject's end.", lambda p, o, s, at, m, x, y: y[0] == -2),
+    ("A lookaround that meets the subject's end doesn't end our search.",
+     lambda p, o, s, at, m, x, y: x[0] == -2 and re.search(LOOKS, p)),
+)
 
 
 class Library:
@@ -70,6 +147,13 @@ class Library:
             self.call("pattern_info")(code, question, ctypes.byref(n))
             told[name] = n.value
         return told
+
+    def first(self, code):
+        """The first code unit of each match, where it is told."""
+        told = ctypes.c_uint32(), ctypes.c_uint32()
+        for question, n in zip((FIRST_TYPE, FIRST), told):
+            self.call("pattern_info")(code, question, ctypes.byref(n))
+        return told[1].value if told[0].value == 1 else None
 
     def found(self, rc):
         pairs = 1 if rc == -2 else 8 if rc == 0 else max(rc, 0)
@@ -113,15 +197,29 @@ def pattern(r, depth):
 
 class Tally:
     def __init__(self):
-        self.counts, self.shown = {}, {}
+        self.counts, self.reasons = {}, {}
 
     def add(self, what, same, *told):
-        row = self.counts.setdefault(what, [0, 0])
+        row = self.counts.setdefault(what, [0, 0, 0])
         row[0] += 1
-        if not same:
-            row[1] += 1
-            if row[1] <= 10:
-                print(what, *told)
+        if same:
+            return
+        row[1] += 1
+        for reason, is_met in REASONS.get(what, ()):
+            if is_met(*told):
+                self.reasons[what, reason] = self.reasons.get((what, reason), 0) + 1
+                return
+        row[2] += 1
+        if row[2] <= SHOWN:
+            print(what, *told)
+
+    def show(self):
+        for what, (tried, other, unknown) in sorted(self.counts.items()):
+            print(f"{what}: {tried} tried, {other} differ, {unknown} for no known reason")
+            for (kind, reason), n in sorted(self.reasons.items(), key=lambda row: -row[1]):
+                if kind == what:
+                    print(f"  {n}: {reason}")
+        return any(unknown for _, _, unknown in self.counts.values())
 
 
 def one_pattern(r, stock, ours, tally):
@@ -132,17 +230,17 @@ def one_pattern(r, stock, ours, tally):
     (a, fault_a), (b, fault_b) = stock.compile(text, options), ours.compile(text, options)
     if a and b:
         told_a, told_b = stock.info(a), ours.info(b)
-        tally.add("info", told_a == told_b, text, hex(options), told_a, told_b)
+        tally.add("info", told_a == told_b, text, options, told_a, told_b)
         for _ in range(6):
-            one_subject(r, stock, ours, tally, (a, b), (text, hex(options)))
+            one_subject(r, stock, ours, tally, (a, b), (text, options))
         if r.randrange(3) == 0:
             one_bad_subject(r, stock, ours, tally, text, options)
     elif fault_b[0] in NOT_BUILT:
         tally.add("not built", True)
     else:
-        tally.add("compiles", not a and not b, text, hex(options), fault_a, fault_b)
+        tally.add("compiles", not a and not b, text, options, fault_a, fault_b)
         if not a and not b:
-            tally.add("fault", fault_a == fault_b, text, hex(options), fault_a, fault_b)
+            tally.add("fault", fault_a == fault_b, text, options, fault_a, fault_b)
     stock.free(a)
     ours.free(b)
 
@@ -159,7 +257,7 @@ def one_bad_subject(r, stock, ours, tally, text, options):
         start = 0 if r.randrange(3) else r.randrange(len(subject) + 1)
         x, y = (lib.match(code, subject, start, matching) for lib, code in zip((stock, ours), codes))
         if not {x[0], y[0]} & LIMITS:
-            tally.add("match in bad UTF", x == y, text, hex(options), subject, start, hex(matching), x, y)
+            tally.add("match in bad UTF", x == y, text, options, subject, start, matching, x, y)
     for lib, code in zip((stock, ours), codes):
         lib.free(code)
 
@@ -168,12 +266,15 @@ def one_subject(r, stock, ours, tally, codes, told):
     subject = "".join(r.choice(PIECES) for _ in range(r.randrange(10))).encode()
     options = r.choice(MATCH_OPTIONS) if r.randrange(3) == 0 else 0
     start = 0 if r.randrange(4) else r.randrange(len(subject) + 1)
-    told = (*told, subject, start, hex(options))
+    told = (*told, subject, start, options)
     x, y = (lib.match(code, subject, start, options) for lib, code in zip((stock, ours), codes))
     if x[0] in LIMITS or y[0] in LIMITS:
         tally.add("limit", True)
     else:
         tally.add("partial match" if options & PARTIAL else "match", x == y, *told, x, y)
+        first = ours.first(codes[1])
+        if first is not None and y[0] >= 0:
+            tally.add("first code unit", subject[y[1][0] : y[1][0] + 1] == bytes((first,)), *told, first, y)
         if x == y and not options & PARTIAL:
             tally.add("mark", stock.mark() == ours.mark(), *told, stock.mark(), ours.mark())
     x, y = (lib.ends(code, subject, start, options) for lib, code in zip((stock, ours), codes))
@@ -193,8 +294,8 @@ def main():
     stock, ours, tally = Library(STOCK, 200000), Library(OURS, 1000000), Tally()
     for _ in range(count):
         one_pattern(r, stock, ours, tally)
-    for what, (tried, other) in sorted(tally.counts.items()):
-        print(f"{what}: {tried} tried, {other} differ")
+    return 1 if tally.show() else 0
 
 
-main()
+if __name__ == "__main__":
+    sys.exit(main())

@@ -184,6 +184,13 @@ static void information(void) {
   for (size_t i = 0; i < sizeof rows / sizeof *rows; i++)
     number(c, rows[i].name, rows[i].question);
   printf("NULL: %d\n", pcre2_pattern_info(NULL, PCRE2_INFO_BSR, NULL));
+  static const char *const begins[] = {"abc", "(cat|cow|coyote)", "[ab]c", "a?b", "a|bc"};
+  for (size_t i = 0; i < sizeof begins / sizeof *begins; i++) {
+    pcre2_code *b = code(begins[i], 0, NULL);
+    number(b, "first type", PCRE2_INFO_FIRSTCODETYPE);
+    number(b, "first", PCRE2_INFO_FIRSTCODEUNIT);
+    pcre2_code_free(b);
+  }
   PCRE2_SPTR table, first, last;
   uint32_t size = 0;
   pcre2_pattern_info(c, PCRE2_INFO_NAMETABLE, &table);
@@ -419,6 +426,43 @@ static void substituting(void) {
   pcre2_code_free(c);
 }
 
+/* Searches in which no match may begin behind a place. */
+static void limited(const char *pattern, uint32_t options, const char *s, uint32_t matching) {
+  pcre2_code *c = code(pattern, options | PCRE2_USE_OFFSET_LIMIT, NULL);
+  pcre2_match_data *m = pcre2_match_data_create(2, NULL);
+  pcre2_match_context *with = pcre2_match_context_create(NULL);
+  size_t len = strlen(s);
+  int work[100];
+  for (size_t limit = 0; limit <= len; limit++) {
+    char out[64] = "";
+    size_t room = sizeof out;
+    pcre2_set_offset_limit(with, limit);
+    printf("%s to %zu", s, limit);
+    places("", pcre2_match(c, (PCRE2_SPTR)s, len, len / 3, matching, m, with), m);
+    places("all ends",
+           pcre2_dfa_match(c, (PCRE2_SPTR)s, len, len / 3, matching, m, with, work, 100), m);
+    if (matching || options & PCRE2_MATCH_INVALID_UTF) continue;
+    int rc = pcre2_substitute(c, (PCRE2_SPTR)s, len, len / 3, 0, NULL, with, (PCRE2_SPTR) "<$0>", 4,
+                              (PCRE2_UCHAR *)out, &room);
+    printf("replaced: %d %zd %s\n", rc, room, rc >= 0 ? out : "");
+  }
+  pcre2_match_context_free(with);
+  pcre2_match_data_free(m);
+  pcre2_code_free(c);
+}
+
+static void offset_limits(void) {
+  limited("abc", 0, "xxxabcabc", 0);
+  limited("(?<=x)b|c", 0, "aaaxbc", 0);
+  limited("\\bé", PCRE2_UTF, "éé éé", 0);
+  limited("abcd", 0, "xabab", PCRE2_PARTIAL_SOFT);
+  limited("b+", PCRE2_MATCH_INVALID_UTF,
+          "a\xff\xff"
+          "a\xff"
+          "bb",
+          0);
+}
+
 static void all_ends(void) {
   pcre2_code *c = code("a+|ab", PCRE2_NO_AUTO_POSSESS, NULL), *d = code("(a)\\1", 0, NULL),
              *u = code("a", PCRE2_MATCH_INVALID_UTF, NULL);
@@ -602,6 +646,7 @@ int main(void) {
   utf();
   substrings();
   substituting();
+  offset_limits();
   all_ends();
   copies();
   memory();

@@ -14,6 +14,7 @@ use Rattle.c_door.specs.declared.told.Answer.{Answer}
 use Rattle.c_door.specs.declared.told.Hit.{Hit}
 use Rattle.c_door.specs.declared.told.Pair.{Pair}
 use Rattle.c_door.specs.declared.runs.Run.{Run}
+use Rattle.c_door.specs.Limits.{limited}
 use Rattle.c_door.specs.Telling.{IsFoundOrNot, answer_of}
 
 -- A run begins where the text does, or behind the byte where another one ends, and goes as far as the text is UTF-8.
@@ -81,9 +82,9 @@ pub data AreTold (text : List ℕ) (Tells : Run → Result Hit MatchError → Ty
       → AreTold text Tells ((run_from text from).to + 1) (or_else last seen) run told
       → AreTold text Tells from seen run told
 
--- what a search of all runs answers
-abbrev pub IsRunsAnswer : CodeParts → MatchOptions → List ℕ → ℕ → Answer → Run → List Pair → List ℕ → Type 0
-IsRunsAnswer code o text start answer run places mark =
+-- what a search of all runs answers, where no match may begin behind the limit
+abbrev pub IsRunsAnswer : CodeParts → MatchOptions → List ℕ → ℕ → ℕ → Answer → Run → List Pair → List ℕ → Type 0
+IsRunsAnswer code o text start limit answer run places mark =
     (begin : ℕ) × IsBegin text start begin
     × (r : Result Hit MatchError) × AreTold text (IsToldIn code o text start begin places mark) 0 None run r
-    × (answer ≡ answer_of r)
+    × (answer ≡ answer_of (limited limit run.from places r))

@@ -29,7 +29,9 @@ use Rattle.pcre2_api.specs.DfaMatched.{IsDfaFound, IsDfaError}
 use Rattle.pcre2_api.specs.Substituted.{Refuses}
 use Rattle.pat_tree.specs.Pattern.{pattern_of}
 use Rattle.c_door.specs.Around.{compiled_around}
+use Rattle.c_door.specs.Limits.{limited, limited_ends}
 use Rattle.c_door.specs.Held.{EngineValue}
+use Rattle.pcre2_api.specs.Leads.{IsFirstByte}
 use Rattle.c_door.specs.declared.told.Fault.{Fault}
 use Rattle.c_door.specs.declared.told.Answer.{Answer}
 use Rattle.c_door.specs.declared.told.Hit.{Hit}
@@ -128,6 +130,15 @@ told_by i o names = record {
 abbrev pub told_of : CodeParts → Told
 told_of code = told_by (info_of code) code.tree.options code.tree.names
 
+abbrev pub byte_told : Option ℕ → ℤ
+byte_told (Some byte) = pos byte
+byte_told None = negsuc 0
+
+-- the byte is told that every match begins with, or that there is none
+abbrev pub IsFirst : CodeParts → ℤ → Type 0
+IsFirst code (pos byte) = IsFirstByte code byte
+IsFirst code (negsuc n) = (b : ℕ) → b < 256 → ¬ IsFirstByte code b
+
 -- Matches
 
 -- PCRE2's number of a refusal; `negsuc n` is -(n + 1)
@@ -188,9 +199,10 @@ abbrev pub IsFoundOrNot : CodeParts → Setting → List Pair → List ℕ → R
 IsFoundOrNot code g places mark (Ok hit) = IsTold code g hit places mark
 IsFoundOrNot code g places mark (Err e) = IsMatchError g e
 
-abbrev pub IsAnswer : CodeParts → Setting → Answer → List Pair → List ℕ → Type 0
-IsAnswer code g answer places mark =
-    (r : Result Hit MatchError) × IsFoundOrNot code g places mark r × (answer ≡ answer_of r)
+-- this answer, where no match may begin behind the limit
+abbrev pub IsAnswer : CodeParts → Setting → ℕ → Answer → List Pair → List ℕ → Type 0
+IsAnswer code g limit answer places mark =
+    (r : Result Hit MatchError) × IsFoundOrNot code g places mark r × (answer ≡ answer_of (limited limit 0 places r))
 
 -- Matches by all ends
 
@@ -215,9 +227,10 @@ abbrev pub IsEndsOrNot : Setting → Result DfaFound DfaError → Type 0
 IsEndsOrNot g (Ok f) = IsDfaFound g f
 IsEndsOrNot g (Err e) = IsDfaError g e
 
--- the search answers these ends, or this refusal
-abbrev pub IsEnds : Setting → EndsAnswer → List ℕ → Type 0
-IsEnds g answer ends = (r : Result DfaFound DfaError) × IsEndsOrNot g r × (answer ≡ ends_answer r) × AreEnds r ends
+-- the search answers these ends, or this refusal, where no match may begin behind the limit
+abbrev pub IsEnds : Setting → ℕ → EndsAnswer → List ℕ → Type 0
+IsEnds g limit answer ends =
+    (r : Result DfaFound DfaError) × IsEndsOrNot g r × (answer ≡ ends_answer (limited_ends limit r)) × AreEnds r ends
 
 -- Substitutions
 

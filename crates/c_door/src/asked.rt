@@ -52,6 +52,9 @@ pub struct MatchAsked {
     pub match_limit: u32,
     /// The most units that a path may hold.
     pub frame_limit: u32,
+    /// The last place in bytes at which a match may begin (pcre2_set_offset_limit); the greatest
+    /// number where it may begin anywhere.
+    pub offset_limit: u64,
 }
 
 /// How matches are replaced (pcre2api, "Creating a new string with substitutions").

@@ -10,11 +10,13 @@ ghost use Rattle.pcre2_api.specs.Captured.{top_of, mark_of};
 ghost use Rattle.pcre2_api.specs.DfaMatched.{IsDfaFound, IsDfaError};
 ghost use Rattle.pcre2_api.specs.Substituted.{substituted};
 ghost use Rattle.c_door.specs.Telling.{IsTold, IsMark, ArePlaces, IsText, IsName, told_of, IsEnds, AreEnds, end_at};
-ghost use Rattle.c_door.specs.Telling.{IsReplaced};
+ghost use Rattle.c_door.specs.Telling.{IsReplaced, IsFirst};
 
+use crate::limits::limited_ends;
 use crate::texts::{put, put_mark, put_text};
 use crate::told::{
-    EndsAnswer, Hit, Named, Pair, SubstAnswer, Told, ends_answer, pair_of, subst_answer, told_of,
+    EndsAnswer, Hit, Named, Pair, SubstAnswer, Told, byte_or_minus_one, ends_answer, pair_of,
+    subst_answer, told_of,
 };
 use pcre2_api::{
     Code, CompileError, DfaError, DfaFound, EndList, Found, Lists, MatchError, MatchOptions,
@@ -126,24 +128,26 @@ impl Engine {
         Ok(hit_of(&found, mark))
     }
 
-    /// Looks for all ends of a match, and writes as many as there is room for.
+    /// Looks for all ends of a match that begins before the limit or there, and writes as many as
+    /// there is room for.
     pub(crate) fn find_ends(
         &self,
         alloc: Global,
         subject: &[u8],
         start: usize,
         options: &MatchOptions,
+        limit: u64,
         ends: &mut [u64],
     ) -> EndsAnswer
         requires short { length subject.now < 4294967295 }
         ensures { IsEnds
             (search_of self.now.code.value options.now subject.now start passed_over)
-            result ends.new }
+            limit result ends.new }
     {
         let mut lists = Lists::new(alloc);
         let told = all_ends(alloc, &self.code, subject, start, options, &mut lists);
         write_ends(&told, ends);
-        ends_answer(&told)
+        ends_answer(&limited_ends(limit, told))
     }
 
     /// Replaces matches, and writes as much of the text as there is room for.
@@ -183,6 +187,13 @@ impl Engine {
         ensures { result ≡ told_of self.now.code.value }
     {
         told_of(self.code.info(), self.code.options(), self.code.names())
+    }
+
+    /// The byte that every match begins with, or -1.
+    pub(crate) fn first_byte(&self) -> i32
+        ensures { IsFirst self.now.code.value result }
+    {
+        byte_or_minus_one(self.code.first_byte())
     }
 
     /// Writes the name of an entry of the name table, counted from 0.

@@ -9,12 +9,13 @@ ghost use Rattle.pcre2_api.specs.Matched.{search_of};
 ghost use Rattle.pcre2_api.specs.Substituted.{substituted};
 ghost use Rattle.c_door.specs.Asking.{options_of, match_options_of, subst_options_of};
 ghost use Rattle.c_door.specs.Telling.{IsHeld, IsCompiled, IsAnswer, IsEnds, IsReplaced, IsShared, IsText, IsName};
-ghost use Rattle.c_door.specs.Telling.{IsPut, told_of};
+ghost use Rattle.c_door.specs.Telling.{IsPut, told_of, IsFirst};
 ghost use Rattle.c_door.specs.Runs.{IsRunsAnswer};
 
 use crate::asked::{Asked, MatchAsked, SubstAsked, match_options_of, options_of, subst_options_of};
 use crate::engine::Engine;
 use crate::handle::Handle;
+use crate::limits::limited;
 use crate::runs::Run;
 use crate::texts::put;
 use crate::told::{Answer, EndsAnswer, Fault, Named, Pair, SubstAnswer, Told, answer_of, fault_of};
@@ -65,7 +66,7 @@ pub extern "C" fn door_match(
     requires few { length places.old ≤ 65536 }
     ensures answer { IsHeld handle.old.engine (λ e. IsAnswer e.code.value
         (search_of e.code.value (match_options_of asked.now) subject.now start (λ _. pos 0))
-        result places.new mark.new) }
+        asked.now.offset_limit result places.new mark.new) }
     ensures kept { IsHeld handle.old.engine (λ e. IsHeld handle.new.engine
         (λ n. n.code.value ≡ e.code.value)) }
 {
@@ -73,7 +74,7 @@ pub extern "C" fn door_match(
     let mut engine = handle.take(alloc);
     let told = engine.find(subject, start, &options, places, mark);
     handle.put(engine);
-    answer_of(told)
+    answer_of(limited(asked.offset_limit, 0, told, places))
 }
 
 /// Does the same where the subject is known to be UTF-8, or the pattern isn't one in UTF
@@ -94,7 +95,7 @@ pub extern "C" fn door_match_checked(
     requires few { length places.old ≤ 65536 }
     ensures answer { IsHeld handle.old.engine (λ e. IsAnswer e.code.value
         (search_of e.code.value (match_options_of asked.now) subject.now start (λ _. pos 0))
-        result places.new mark.new) }
+        asked.now.offset_limit result places.new mark.new) }
     ensures kept { IsHeld handle.old.engine (λ e. IsHeld handle.new.engine
         (λ n. n.code.value ≡ e.code.value)) }
 {
@@ -102,7 +103,7 @@ pub extern "C" fn door_match_checked(
     let mut engine = handle.take(alloc);
     let told = engine.find_again(subject, start, &options, places, mark);
     handle.put(engine);
-    answer_of(told)
+    answer_of(limited(asked.offset_limit, 0, told, places))
 }
 
 /// Looks for a match in a subject that may hold bad UTF-8 (PCRE2_MATCH_INVALID_UTF), run by run of
@@ -123,7 +124,8 @@ pub extern "C" fn door_match_runs(
     requires short { length subject.now < 4294967295 }
     requires few { length places.old ≤ 65536 }
     ensures answer { IsHeld handle.old.engine (λ e. IsRunsAnswer e.code.value
-        (match_options_of asked.now) subject.now start result run.new places.new mark.new) }
+        (match_options_of asked.now) subject.now start asked.now.offset_limit result run.new
+        places.new mark.new) }
     ensures kept { IsHeld handle.old.engine (λ e. IsHeld handle.new.engine
         (λ n. n.code.value ≡ e.code.value)) }
 {
@@ -132,7 +134,7 @@ pub extern "C" fn door_match_runs(
     let found = engine.find_in_runs(subject, start, &options, places, mark);
     handle.put(engine);
     *run = found.run;
-    answer_of(found.told)
+    answer_of(limited(asked.offset_limit, found.run.from, found.told, places))
 }
 
 /// Looks for all ends of a match (pcre2api, "Matching a pattern: the alternative function"), and
@@ -150,12 +152,13 @@ pub extern "C" fn door_ends(
     requires short { length subject.now < 4294967295 }
     ensures answer { IsHeld handle.old.engine (λ e. IsEnds
         (search_of e.code.value (match_options_of asked.now) subject.now start passed_over)
-        result ends.new) }
+        asked.now.offset_limit result ends.new) }
     ensures kept { handle.new.engine ≡ handle.old.engine }
 {
     let options = match_options_of(asked);
     let engine = handle.take(alloc);
-    let told = engine.find_ends(alloc, subject, start, &options, ends);
+    let limit = asked.offset_limit;
+    let told = engine.find_ends(alloc, subject, start, &options, limit, ends);
     handle.put(engine);
     told
 }
@@ -222,6 +225,20 @@ pub extern "C" fn door_info(alloc: Global, handle: &mut Handle) -> Told
     let told = engine.told();
     handle.put(engine);
     told
+}
+
+/// Tells the byte that every match begins with (PCRE2_INFO_FIRSTCODEUNIT), or -1 where it isn't
+/// known that there is one.
+#[unsafe(no_mangle)]
+pub extern "C" fn door_first_byte(alloc: Global, handle: &mut Handle) -> i32
+    requires held { is_some handle.old.engine ≡ true }
+    ensures first { IsHeld handle.old.engine (λ e. IsFirst e.code.value result) }
+    ensures kept { handle.new.engine ≡ handle.old.engine }
+{
+    let engine = handle.take(alloc);
+    let first = engine.first_byte();
+    handle.put(engine);
+    first
 }
 
 /// Writes as much of a name of the name table as there is room for (PCRE2_INFO_NAMETABLE). Entries

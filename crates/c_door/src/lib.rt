@@ -7,6 +7,7 @@ mod asked;
 mod engine;
 mod exports;
 mod handle;
+mod limits;
 mod parts;
 mod runs;
 mod texts;

@@ -1,7 +1,7 @@
 //! What C is told.
 ghost use Rattle.std.specs.Prelude.{◌≡◌};
 ghost use Rattle.c_door.specs.Telling.{error_code, answer_of, pair_of, newline_number, bsr_number, or_zero, told_by};
-ghost use Rattle.c_door.specs.Telling.{place_told, mark_told, ends_place, ends_answer, subst_answer};
+ghost use Rattle.c_door.specs.Telling.{place_told, mark_told, ends_place, ends_answer, subst_answer, byte_told};
 
 use pcre2_api::{
     Bsr, DfaError, DfaFound, Info, MatchError, NameTable, Newline, Options, Span, SubstError,
@@ -166,6 +166,16 @@ pub(crate) fn fault_of(number: i32, at: usize) -> Fault
     ensures { result ≡ record { number = number; at = at } }
 {
     Fault { number, at }
+}
+
+/// A byte, or -1.
+pub(crate) fn byte_or_minus_one(byte: Option<u8>) -> i32
+    ensures { result ≡ byte_told byte }
+{
+    match byte {
+        Some(byte) => i32::from(byte),
+        None => -1,
+    }
 }
 
 fn error_code(e: MatchError) -> i32

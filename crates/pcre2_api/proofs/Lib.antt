@@ -6,6 +6,7 @@ pub mod Naming
 pub mod Behind
 pub mod Faults
 pub mod Informing
+pub mod Leading
 pub mod Taking
 pub mod Walking
 pub mod Enough

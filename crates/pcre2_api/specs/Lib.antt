@@ -18,3 +18,4 @@ pub mod Needed
 pub mod Shapes
 pub mod Reserved
 pub mod Holding
+pub mod Leads

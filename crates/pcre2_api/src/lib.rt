@@ -7,6 +7,7 @@ mod code;
 mod dfa;
 mod found;
 mod laws;
+mod lead;
 mod need;
 mod reserved;
 mod seek;

@@ -1,9 +1,9 @@
-use Rattle.std.proofs.Common.{sym, subst, pos}
+use Rattle.std.proofs.Common.{◌∙◌, ap, sym, subst, pos}
 use Rattle.pat_tree.specs.declared.options.MatchOptions.{MatchOptions}
 use Rattle.pcre2_api.specs.Matched.{search_of}
 use Rattle.c_door.specs.Held.{EngineValue}
 use Rattle.c_door.specs.Asking.{match_options_of}
-use Rattle.c_door.specs.Telling.{IsHeld, IsFoundOrNot, IsAnswer}
+use Rattle.c_door.specs.Telling.{IsHeld, IsFoundOrNot, IsAnswer, answer_of}
 use Rattle.c_door.proofs.Answered.{found_or_not}
 use Rattle.c_door.proofs.exports.door_match_checked.Goals as goal
 
@@ -33,5 +33,5 @@ returns-clause-answer c =
     c.match_options_of-options.ensures of_engine in
     subst (λ h. IsHeld h
     (λ e. IsAnswer e.code.value (search_of e.code.value (match_options_of c.args.asked.now) c.args.subject.now
-    c.args.start (λ _. pos 0)) c.answer_of.result places mark)) (sym c.take-engine.ensures.taken)
-    (told, of_options, c.answer_of.ensures)
+    c.args.start (λ _. pos 0)) c.args.asked.now.offset_limit c.answer_of.result places mark)) (sym c.take-engine.ensures.taken)
+    (told, of_options, c.answer_of.ensures ∙ ap answer_of c.limited.ensures)

@@ -1,8 +1,8 @@
-use Rattle.std.proofs.Common.{ℕ, None, sym, subst}
+use Rattle.std.proofs.Common.{◌∙◌, ℕ, None, ap, sym, subst}
 use Rattle.pat_tree.specs.declared.options.MatchOptions.{MatchOptions}
 use Rattle.c_door.specs.Held.{EngineValue}
 use Rattle.c_door.specs.Asking.{match_options_of}
-use Rattle.c_door.specs.Telling.{IsHeld}
+use Rattle.c_door.specs.Telling.{IsHeld, answer_of}
 use Rattle.c_door.specs.Runs.{IsBegin, AreTold, IsToldIn, IsRunsAnswer}
 use Rattle.c_door.proofs.exports.door_match_runs.Goals as goal
 
@@ -28,5 +28,5 @@ returns-clause-answer c =
     × AreTold text (IsToldIn engine.code.value o text start begin places mark) 0 None run told)
     c.match_options_of-options.ensures of_engine in
     subst (λ h. IsHeld h (λ e. IsRunsAnswer e.code.value (match_options_of c.args.asked.now) text start
-    c.answer_of.result run places mark)) (sym c.take-engine.ensures.taken)
-    (of_options.0, of_options.1, told, of_options.2, c.answer_of.ensures)
+    c.args.asked.now.offset_limit c.answer_of.result run places mark)) (sym c.take-engine.ensures.taken)
+    (of_options.0, of_options.1, told, of_options.2, c.answer_of.ensures ∙ ap answer_of c.limited.ensures)
