@@ -484,7 +484,7 @@ fn lookbehinds_have_a_length_or_are_refused(rt: HostRuntime) -> Result<(), Fail>
                 Capture(2, 1),
                 Seq(3),
             ],
-            Bad(125, 1),
+            Back(1),
         ),
         // a group that leads to a recursive one: `(?<=(?1))(a(?2){0})((?2)?)`; one that leads back where it takes
         // nothing
