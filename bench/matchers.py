@@ -12,8 +12,13 @@ limit, isn't compared, nor one with a form that isn't built; it is told how many
 program can be named as the third argument; it has to be named pcre2test. The C library's has to be told not to take the
 repeats at a pattern's end as possessive: a fourth argument is a list of modifiers for each pattern.
 
-    bench/matchers.py [PATTERNS] [SEED] [PROGRAM] [MODIFIERS]
+With --lengths each pattern has a lookbehind with branches of several lengths. With --alternatives such a pattern is
+compared on ten subjects, by each matcher, with one that has an alternative for each way in which its lookbehind can be
+long; that one is given to the program that is named, with the modifiers, which can be the C library's.
+
+    bench/matchers.py [--lengths | --alternatives] [PATTERNS] [SEED] [PROGRAM] [MODIFIERS]
 """
+import itertools
 import os
 import random
 import re
@@ -28,6 +33,13 @@ ITEMS = ["a", "b", "c", ".", r"\w", r"\d", "[ab]", "[^a]", "x", r"\s", r"\R", r"
 IN_UTF = ["é", r"\x{e9}", r"[^\x{e9}]", r"[\x{c9}-\x{3b1}]", r"\p{L}", r"\P{Lu}", "😀", r"\N"]
 NAMES = ["größe", "имя", "n", "字"]
 BEHIND = ["a", "b", ".", r"\w", "[ab]", "(a|b)", "(?:ab|bc)", "b{2}", "^", r"\b", "(?=b)", "(?!ab)", "(?<=a)", "(?<!bb)", "(?C4)"]
+# Parts of several lengths, and beside some of them the texts that they stand for.
+SEVERAL = ["a?", "b{1,2}", ".{0,2}", "[ab]{1,3}?", r"\R", "(a|bc)", "(?:ab|c)?", r"\w??", "(?>ab|a)", "(?:a|b|){2}",
+           "(?(?=a)a|bc)", "b??(?=c)", "(?<!a?)b?"]
+SEVERAL_IN_UTF = ["é?", r"\P{Lu}{1,2}", "(?:é|😀a)", r"\N{0,3}"]
+WAYS = {"a?": ["a", ""], "b{1,3}": ["b", "bb", "bbb"], ".{0,2}": ["", ".", ".."], "[ab]{1,2}?": ["[ab]", "[ab][ab]"],
+        "(?:ab|c)": ["ab", "c"], "(?:a|bc)??": ["", "a", "bc"], r"\d{0,1}+": [r"\d", r"(?!\d)"], r"\w{2,3}": [r"\w\w", r"\w\w\w"],
+        "b": ["b"], "x": ["x"], r"\b": [r"\b"], "(?=a)": ["(?=a)"], "": [""]}
 CALLOUTS = ["(?C)", "(?C1)", "(?C255)", "(?C'text')"]
 ANCHORS = ["^", "$", r"\b", r"\B", r"\A", r"\z", r"\Z", r"\G"]
 REPEATS = ["*", "+", "?", "*?", "+?", "??", "{2}", "{1,2}", "{0,2}?", "{2,}", "{2,}?"]
@@ -38,10 +50,16 @@ PAST_ASCII = {"\\x{e9}": 2, "\\x{c9}": 2, "\\x{3b1}": 2, "\\x{1f600}": 4}
 TURNS = ["", "auto_callout", "utf,dupnames", "utf,ucp,caseless,dupnames"]
 
 
+class Choice(random.Random):
+    """What is drawn, and whether lookbehinds have several lengths."""
+
+    several = False
+
+
 def group(choice, depth, utf):
     """A group, a lookaround, or a condition on one."""
     inside = alternatives(choice, depth - 1, utf)
-    kind = choice.randrange(10)
+    kind = 7 if choice.several and choice.randrange(3) == 0 else choice.randrange(10)
     if kind < 3:
         name = f"?<{choice.choice(NAMES)}>" if utf and choice.randrange(3) == 0 else ""
         return f"({name}{inside})"
@@ -58,10 +76,23 @@ def group(choice, depth, utf):
 
 
 def behind(choice, utf):
-    """Branches of one length each."""
+    """Branches of one length each, or of several."""
     parts = BEHIND + IN_UTF[:4] if utf else BEHIND
     branches = ["".join(choice.choices(parts, k=choice.randrange(1, 4))) for _ in range(choice.randrange(1, 4))]
+    if choice.several:
+        longer = SEVERAL + SEVERAL_IN_UTF if utf else SEVERAL
+        branches = [choice.choice([branch, ""]) + choice.choice(longer) + choice.choice(parts) for branch in branches]
     return "|".join(branches)
+
+
+def two_ways(choice):
+    """A pattern with a lookbehind of several lengths, and with an alternative for each way in which it can be long."""
+    front, back = sequence(choice, 1, False), sequence(choice, 1, False)
+    kind = choice.choice(["(?<=", "(?<!"])
+    branches = [choice.choices(list(WAYS), k=choice.randrange(1, 4)) for _ in range(choice.randrange(1, 3))]
+    fixed = ["".join(parts) for branch in branches for parts in itertools.product(*(WAYS[part] for part in branch))]
+    lengths = "|".join("".join(branch) for branch in branches)
+    return f"{front}{kind}{lengths}){back}", f"{front}{kind}{'|'.join(fixed)}){back}"
 
 
 def sequence(choice, depth, utf):
@@ -175,18 +206,49 @@ def differ(pattern, subject, what, counts):
     print(f"/{pattern}/ on {''.join(subject)!r}: {what}", flush=True)
 
 
+def in_both_ways(program, folder, choice, size, modifiers, counts):
+    """Compares patterns with lookbehinds of several lengths with those that have alternatives in their place."""
+    pairs = [two_ways(choice) for _ in range(size)]
+    subjects = [["".join(subject_of(choice, False)) for _ in range(10)] for _ in range(size)]
+    asked = [[f"{text}\\=callout_none{tail}" for text in texts for tail in ("", ",dfa")] for texts in subjects]
+    ours = iter(run(OURS, folder, [(pair[0], lines) for pair, lines in zip(pairs, asked)], ""))
+    fixed = iter(run(program, folder, [(pair[1], lines) for pair, lines in zip(pairs, asked)], modifiers))
+    for pair, lines in zip(pairs, asked):
+        for line in lines:
+            got, wanted = next(ours), next(fixed)
+            if any(told and told[0].startswith("Failed") for told in (got, wanted)):
+                counts["failed"] += 1
+                continue
+            counts["compared"] += 1
+            if got != wanted:
+                differ(pair[0], line, f"{got}, and with alternatives {wanted}", counts)
+
+
+def drawn(choice, utf):
+    """A pattern, with a lookbehind where its lengths count."""
+    pattern = alternatives(choice, 3, utf)
+    while choice.several and not re.search(r"\(\?<[=!]", pattern):
+        pattern = alternatives(choice, 3, utf)
+    return pattern
+
+
 def main():
-    patterns = int(sys.argv[1]) if len(sys.argv) > 1 else 100_000
-    choice = random.Random(int(sys.argv[2]) if len(sys.argv) > 2 else 1)
-    program = os.path.abspath(sys.argv[3] if len(sys.argv) > 3 else OURS)
-    modifiers = sys.argv[4] if len(sys.argv) > 4 else ""
+    words = [word for word in sys.argv[1:] if not word.startswith("--")]
+    patterns = int(words[0]) if words else 100_000
+    choice = Choice(int(words[1]) if len(words) > 1 else 1)
+    choice.several = "--lengths" in sys.argv
+    program = os.path.abspath(words[2] if len(words) > 2 else OURS)
+    modifiers = words[3] if len(words) > 3 else ""
     counts = {"compared": 0, "not built": 0, "failed": 0, "differ": 0}
     with tempfile.TemporaryDirectory() as folder:
         for number in range(-(-patterns // BATCH)):
+            size = min(BATCH, patterns - number * BATCH)
+            if "--alternatives" in sys.argv:
+                in_both_ways(program, folder, choice, size, modifiers, counts)
+                continue
             turn = TURNS[number % len(TURNS)]
             utf = "utf" in turn
-            size = min(BATCH, patterns - number * BATCH)
-            cases = [(alternatives(choice, 3, utf), subject_of(choice, utf)) for _ in range(size)]
+            cases = [(drawn(choice, utf), subject_of(choice, utf)) for _ in range(size)]
             check(program, folder, cases, ",".join(filter(None, [turn, modifiers])), counts)
     print(", ".join(f"{count} {name}" for name, count in counts.items()))
     return 1 if counts["differ"] else 0
