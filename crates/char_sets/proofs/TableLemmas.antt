@@ -2,7 +2,7 @@
 use Rattle.std.proofs.Common.{◌≡◌, ℕ, ◌<◌, ◌≤◌, ◌∷◌, ◌++◌, [], List, length, get_or, Some, ap, subst, sym, refl, ◌∙◌}
 use Rattle.std.proofs.Common.{slice_get, arith, cond, true, false, nat_lt, inl, inr}
 use Rattle.std.proofs.lemmas.Bool.{cases_lt}
-use Rattle.std.proofs.lemmas.List.{get_or_past}
+use Rattle.std.proofs.lemmas.List.{get_or_past, get_or_default}
 use Rattle.std.proofs.Math.ListN.{get_or-append}
 use Rattle.std.proofs.Math.Seq.{get_or-append_seam}
 use Rattle.std.proofs.lemmas.Option.{get_or_from_slice_get}
@@ -53,3 +53,14 @@ IsTableOf-whole tree table n count all each = record {
     | inr past ↦ table_has-past table class c (omega arith) ∙ sym (class_has-past tree class c (omega arith))
   ];
 }
+
+-- what is found of a class stands for another one that is the same
+pub class_has-alike : (tree : TreeParts) (before : List CharSet) (last id : ℕ) (found entry : CharSet)
+    (one other : ClassSpec) → found ≡ get_or before last found → last < length before →
+    slice_get tree.classes id ≡ Some one → slice_get tree.classes last ≡ Some other → one ≡ other → entry ≡ found →
+    ((c : ℕ) → table_has before last c ≡ class_has tree last c) → (c : ℕ) → char_in entry c ≡ class_has tree id c
+unfolding table_has
+class_has-alike tree before last id found entry one other read within is_one is_other same copy kept c =
+    ap (λ s. char_in s c) (copy ∙ read ∙ get_or_default before last found no_chars within) ∙ kept c
+    ∙ class_has-found tree last c other is_other ∙ ap (λ s. takes tree.options.utf s c) (sym same)
+    ∙ sym (class_has-found tree id c one is_one)

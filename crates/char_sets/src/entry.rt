@@ -50,6 +50,18 @@ impl Entry {
         })
     }
 
+    /// The same table.
+    pub(crate) fn copied(&self, alloc: Global) -> Result<Entry, Memory>
+        ensures { IfOk result (λ e. e ≡ self.now) }
+    {
+        Ok(Entry {
+            bytes: self.bytes.copied(),
+            runs: self.runs.to_vec(alloc)?,
+            sets: self.sets.to_vec(alloc)?,
+            negated: self.negated,
+        })
+    }
+
     /// The bytes that the class takes.
     pub(crate) fn bytes(&self) -> &ByteSet
         ensures { result.now ≡ self.now.bytes }

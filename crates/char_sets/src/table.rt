@@ -1,13 +1,13 @@
 //! The classes of a tree as tables.
-ghost use Rattle.std.specs.Prelude.{◌≡◌, ℕ, ◌+◌, ◌<◌, IfOk, length};
+ghost use Rattle.std.specs.Prelude.{◌≡◌, ℕ, ◌+◌, ◌<◌, true, IfOk, length};
 ghost use Rattle.byte_lanes.specs.Sets.{has_byte};
 ghost use Rattle.pat_tree.specs.Parts.{TreeParts};
 ghost use Rattle.char_sets.specs.Sets.{class_has};
-ghost use Rattle.char_sets.specs.Table.{table_has, IsTableOf};
+ghost use Rattle.char_sets.specs.Table.{char_in, table_has, IsTableOf};
 
 use crate::entry::Entry;
 use byte_lanes::ByteSet;
-use pat_tree::{Memory, Steps, Tree};
+use pat_tree::{ClassSpec, Memory, Part, Steps, Tree};
 use std::alloc::Global;
 use std::marker::Model;
 use std::sync::ledger::Ledger;
@@ -36,10 +36,9 @@ impl ClassTable {
     pub fn build(alloc: Global, tree: &Tree) -> Result<ClassTable, Memory>
         ensures { IfOk result (IsTableOf tree.now) }
     {
-        let utf = tree.options().utf;
         let mut entries = Vec::new(alloc);
         for id in 0..tree.classes() {
-            let entry = Entry::of(alloc, tree.class(id), utf)?;
+            let entry = entry_of(alloc, tree, id, &entries)?;
             entries.push(entry)?;
         }
         Ok(ClassTable { entries })
@@ -75,5 +74,69 @@ impl ClassTable {
     {
         steps.tick();
         self.entries[class as usize].has(c)
+    }
+}
+
+/// The table of a class by those of the classes before it. Where the last of these is alike, it is copied.
+fn entry_of(alloc: Global, tree: &Tree, id: u32, before: &[Entry]) -> Result<Entry, Memory>
+    requires class { id < length tree.now.classes }
+    requires before { length before.now ≡ id }
+    ensures { ((class : ℕ) → class < id → (c : ℕ)
+        → table_has before.now class c ≡ class_has tree.now class c)
+        → IfOk result (λ entry. (c : ℕ) → char_in entry c ≡ class_has tree.now id c) }
+{
+    let class = tree.class(id);
+    if id > 0 && are_alike(class, tree.class(id - 1)) {
+        let same = before[id as usize - 1].copied(alloc)?;
+        return Ok(same);
+    }
+    let entry = Entry::of(alloc, class, tree.options().utf)?;
+    Ok(entry)
+}
+
+/// Whether two classes are the same.
+fn are_alike(one: &ClassSpec, other: &ClassSpec) -> bool
+    ensures { result ≡ true → one.now ≡ other.now }
+{
+    one.negated == other.negated
+        && one.caseless == other.caseless
+        && have_same_parts(one.parts.as_slice(), other.parts.as_slice())
+}
+
+fn have_same_parts(one: &[Part], other: &[Part]) -> bool
+    ensures { result ≡ true → one.now ≡ other.now }
+{
+    if one.len() != other.len() {
+        return false;
+    }
+    for i in 0..one.len() {
+        let (here, there) = (one[i], other[i]);
+        if !is_same_part(here, there) {
+            return false;
+        }
+    }
+    true
+}
+
+fn is_same_part(one: Part, other: Part) -> bool
+    ensures { result ≡ true → one ≡ other }
+{
+    match (one, other) {
+        (
+            Part::Range { from, to },
+            Part::Range {
+                from: first,
+                to: last,
+            },
+        ) => { from == first && to == last }
+        (
+            Part::Set { set, not, ucp },
+            Part::Set {
+                set: other,
+                not: turned,
+                ucp: wide,
+            },
+        ) => set == other && not == turned && ucp == wide,
+        _ => false,
     }
 }

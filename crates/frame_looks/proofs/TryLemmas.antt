@@ -47,8 +47,61 @@ entry_in_kept r ((k, e) ∷ rest) kind other h o =
     ]
 
 are_kept : (r : Record) → AreKept r (entry_table r)
-are_kept r =
-    ((inl refl), ((inr (inr refl)), ((inr (inr refl)), ((inr (inr refl)), ((inr (inr refl)), ((inr (inr refl)), ((inr (inr refl)), ((inr (inr refl)), ((inr (inr refl)), ((inr (inr refl)), ((inr (inr refl)), ((inr (inr refl)), ((inr (inr refl)), ((inr (inr refl)), ((inr (inr refl)), ((inr (inr refl)), ((inr (inr refl)), ((inr (inr refl)), ((inr (inr refl)), ((inr (inr refl)), ((inr (inr refl)), ((inr (inr refl)), ((inr (inr refl)), tt)))))))))))))))))))))))
+are_kept r = (
+  inl refl,
+  (
+    inr (inr refl),
+    (
+      inr (inr refl),
+      (
+        inr (inr refl),
+        (
+          inr (inr refl),
+          (
+            inr (inr refl),
+            (
+              inr (inr refl),
+              (
+                inr (inr refl),
+                (
+                  inr (inr refl),
+                  (
+                    inr (inr refl),
+                    (
+                      inr (inr refl),
+                      (
+                        inr (inr refl),
+                        (
+                          inr (inr refl),
+                          (
+                            inr (inr refl),
+                            (
+                              inr (inr refl),
+                              (
+                                inr (inr refl),
+                                (
+                                  inr (inr refl),
+                                  (
+                                    inr (inr refl),
+                                    (inr (inr refl), (inr (inr refl), (inr (inr refl), (inr (inr refl), (inr (inr refl), tt))))),
+                                  ),
+                                ),
+                              ),
+                            ),
+                          ),
+                        ),
+                      ),
+                    ),
+                  ),
+                ),
+              ),
+            ),
+          ),
+        ),
+      ),
+    ),
+  ),
+)
 
 kept_place : (r : Record) → r.kind ≢ KIND_UNDO → r.kind ≤ KIND_LATER_TRY → (entry_kept (entry_of r)).place ≡ r.place
 kept_place r not_undo known =

@@ -193,7 +193,8 @@ module _ (c : Ground) (ok : IsGround c) (q i : ℕ) (spot : Spot) (stack : List 
         (hand c stack caps spot.frame q))
         (pause x) (hand c stack caps spot.frame q))) e
 
-    pub turn_begin_exits : b ≡ true → IsPart c body → (c.rest body ≡ []) × (c.look_branch body ≡ None) → c.branch body ≡ None → 0 < spot.left
+    pub turn_begin_exits : b ≡ true → IsPart c body → (c.rest body ≡ []) × (c.look_branch body ≡ None)
+        → c.branch body ≡ None → 0 < spot.left
         → spot.units < c.setting.matching.frame_limit →
         Advances c (conf (Begin q i b) spot stack caps)
         (conf (Enter body) (record spot { left = spot.left - 1; units = spot.units + 1; frame = suc (length stack) })
@@ -219,7 +220,8 @@ module _ (c : Ground) (ok : IsGround c) (q i : ℕ) (spot : Spot) (stack : List 
           slots = v.slots;
         })
 
-    pub turn_begin_open : b ≡ false → IsPart c body → (c.rest body ≡ []) × (c.look_branch body ≡ None) → c.branch body ≡ None → 0 < spot.left
+    pub turn_begin_open : b ≡ false → IsPart c body → (c.rest body ≡ []) × (c.look_branch body ≡ None)
+        → c.branch body ≡ None → 0 < spot.left
         → spot.units < c.setting.matching.frame_limit →
         Advances c (conf (Begin q i b) spot stack caps)
         (conf (Enter body) (record spot { left = spot.left - 1; units = spot.units + 1; frame = suc (length stack) })

@@ -1,5 +1,6 @@
 -- How a branch of a lookbehind begins, by its lengths and the characters before a place.
-use Rattle.std.proofs.Common.{◌≡◌, ◌≢◌, ◌∙◌, ℕ, ◌+◌, ◌-◌, ◌<◌, ◌≤◌, Bool, true, false, Some, None, length, option_map, ap}
+use Rattle.std.proofs.Common.{◌≡◌, ◌≢◌, ◌∙◌, ℕ, ◌+◌, ◌-◌, ◌<◌, ◌≤◌, Bool, true, false, Some, None, length}
+use Rattle.std.proofs.Common.{option_map, ap}
 use Rattle.std.proofs.Common.{arith}
 use Rattle.std.specs.Prelude.{◌==◌, nat_lt, if◌then◌else◌}
 use Rattle.std.proofs.lemmas.Bool.{eq-eqb, ne_eqb, lt-ltb, le-ltb}
@@ -18,7 +19,8 @@ module _ (c : Ground) (p place : ℕ) (b : Back)
   within same e = ap (λ x. begun_by c x place) lengths ∙ ap (λ x. begun_within c x b.least b.most place) e
 
   -- of one length
-  pub begun_once : b.least ≡ b.most → begun_place c p place ≡ option_map placed (place_back c.setting.scene b.most place)
+  pub begun_once : b.least ≡ b.most → begun_place c p place ≡ option_map placed
+      (place_back c.setting.scene b.most place)
   begun_once e = within true (eq-eqb b.least b.most e)
 
   -- where they differ, by how many characters stand before

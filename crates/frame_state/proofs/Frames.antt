@@ -21,9 +21,11 @@ use Rattle.frame_state.specs.declared.machine.Next.TheVariants.{Settle, Back, Ac
 use Rattle.frame_state.specs.declared.machine.Spot.{Spot}
 use Rattle.node_flow.specs.Followers.{first_of}
 use Rattle.frame_state.specs.Ground.{Ground, tree_of, settles, BeginsBy, IsGround, IsPart}
-use Rattle.frame_state.specs.Machine.{Around, state_at, link_of, towards, onward, entry_kept, ending_of, heard_by, heard}
+use Rattle.frame_state.specs.Machine.{Around, state_at, link_of, towards, onward, entry_kept, ending_of, heard_by}
+use Rattle.frame_state.specs.Machine.{heard}
 use Rattle.frame_state.specs.Machine.{Outside, place_at}
-use Rattle.frame_state.specs.Frames.{frame_around, after, settle, settled, past, beyond_by, beyond, branch_from, try_from, fewer_places, more_from}
+use Rattle.frame_state.specs.Frames.{frame_around, after, settle, settled, past, beyond_by, beyond, branch_from}
+use Rattle.frame_state.specs.Frames.{try_from, fewer_places, more_from}
 use Rattle.frame_state.specs.Frames.{offer_from, begin_from, close_from, turned_from, chosen_from, around, around_at}
 use Rattle.frame_state.specs.Frames.{frame_end, is_catching, is_catching_then, frame_hand, began, hand, cont, caught}
 use Rattle.frame_state.specs.Frames.{fail, fail_to, outside, focus, Agrees, parts_of}
@@ -473,7 +475,8 @@ module _ (c : Ground) where
     past_agrees p by = after_agrees q d (settled c k p) (settled c l p) (c.rest p) (settled_agrees p)
         (All-tail (BeginsBy c q) p (c.rest p) by)
 
-    pub beyond_agrees : (t : Nested) (p : ℕ) → All (BeginsBy c q) (p ∷ c.rest p) → beyond_by c t d k p ≡ beyond_by c t d l p
+    pub beyond_agrees : (t : Nested) (p : ℕ) → All (BeginsBy c q) (p ∷ c.rest p)
+        → beyond_by c t d k p ≡ beyond_by c t d l p
     beyond_agrees (tree.group None ts) p by = past_agrees p by
     beyond_agrees _ p by = a.follow
 

@@ -276,7 +276,8 @@ module _ (c : Ground) where
           (followed_parts after ends later begun l.1 (back_all (IsOfPattern c) tests ends a) r
           (back_all P tests ends places) (back_all (λ k. BeginsBy c k k) tests ends owns)
           (back_all (IsLooked c) tests ends ls)
-          (all_on ends (chosen_on ends (back_all (λ k. c.look_branch k ≡ (if is_in k ends then c.look_branch q else None))
+          (all_on ends (chosen_on ends
+                  (back_all (λ k. c.look_branch k ≡ (if is_in k ends then c.look_branch q else None))
           tests ends u))))
       parts_by (node.Call m) l a r t w places owns u ls = All-nil (IsPart c)
       parts_by (node.Ref ns caseless) l a r t w places owns u ls = All-nil (IsPart c)

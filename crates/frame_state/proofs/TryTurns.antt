@@ -20,7 +20,8 @@ use Rattle.frame_state.specs.Behind.{place_back}
 use Rattle.frame_state.specs.Begun.{placed, begun_next, begun_spot}
 use Rattle.frame_state.specs.Ground.{Ground, tree_of, differ, settles_by, settles, StandsIf, IsGround, BeginsBy}
 use Rattle.frame_state.specs.Machine.{Around, Outside, kept_at, conf, place_at}
-use Rattle.frame_state.specs.Frames.{past, settle, tries_from, try_from, around, outside, fail, focus, spot_state, ahead}
+use Rattle.frame_state.specs.Frames.{past, settle, tries_from, try_from, around, outside, fail, focus, spot_state}
+use Rattle.frame_state.specs.Frames.{ahead}
 use Rattle.frame_state.specs.Validity.{IsValid, IsTried, Advances}
 use Rattle.frame_state.proofs.BackPlaces.{some_place, last_place, less_long, more_places, others_left}
 use Rattle.frame_state.proofs.PartPaths.{past_end}

@@ -39,7 +39,8 @@ use Rattle.frame_state.specs.Branches.{IsBranched, branch_look}
 use Rattle.frame_state.specs.Ground.{Ground, tree_of, IsNode, StandsIf, IsGround, IsPart}
 use Rattle.frame_state.specs.Machine.{Around, Outside, kept_at, conf, first_set, first_next, row_length, onward}
 use Rattle.frame_state.specs.Machine.{entry_kept, state_at, heard, place_at}
-use Rattle.frame_state.specs.Frames.{past, branch_rest, beyond_by, beyond, branch_path, around, around_at, outside, cont}
+use Rattle.frame_state.specs.Frames.{past, branch_rest, beyond_by, beyond, branch_path, around, around_at, outside}
+use Rattle.frame_state.specs.Frames.{cont}
 use Rattle.frame_state.specs.Frames.{caught}
 use Rattle.frame_state.specs.Frames.{fail, focus, spot_state, ahead, frame_around, hand}
 use Rattle.frame_state.specs.Over.{GoesBy}
@@ -54,7 +55,8 @@ use Rattle.frame_state.proofs.KidParts.{kid_parts, kid_ranks}
 use Rattle.frame_state.proofs.PartPaths.{enter_empty, enter_keep, enter_one, enter_break, enter_anchor, enter_ref}
 use Rattle.frame_state.proofs.PartPaths.{enter_seq_none, enter_seq, enter_group, enter_capture, enter_repeat}
 use Rattle.frame_state.proofs.PartPaths.{branch_begun, branch_last, branch_more, Alike, Alone, IsAgreed}
-use Rattle.frame_state.proofs.PartPaths.{catching_same, branches_by, tree_by, EndsFrame, All-at, part_paths, kid_paths, plain_kids}
+use Rattle.frame_state.proofs.PartPaths.{catching_same, branches_by, tree_by, EndsFrame, All-at, part_paths}
+use Rattle.frame_state.proofs.PartPaths.{kid_paths, plain_kids}
 use Rattle.frame_state.proofs.PartPaths.{begun_state, first_state, first_plain, branched_group, branches_in}
 use Rattle.frame_state.proofs.Frames.{focus_towards, running_towards, around_here, around_push, heard_push}
 use Rattle.frame_state.proofs.Frames.{focus_framed, sound_less, caught_push, hand_same, hand_frame, hand_begun}
@@ -694,7 +696,8 @@ module _ (c : Ground) (ok : IsGround c) (q : ℕ) (spot : Spot) (stack : List En
           ∙ ap (λ (u : State). focus c next level (inside_of c r stack caps) u z)
           (first_kept backward ks (around_at c stack spot.frame spot.passed) opened caps)
           ∙ sym (branches_in c p level ks b none (inside_of c r stack caps) h
-          (alone c (r ∷ stack) caps (suc (length stack)) (inside_of c r stack caps).follow (entry_kept r).place ks None h
+          (alone c (r ∷ stack) caps (suc (length stack)) (inside_of c r stack caps).follow (entry_kept r).place ks
+                None h
           framed
           (λ x none. hand_frame c (r ∷ stack) caps (suc (length stack)) x none ∙ sym is))
           (agreed_frame c (r ∷ stack) caps (suc (length stack)) p h is)
@@ -843,7 +846,8 @@ module _ (c : Ground) (ok : IsGround c) (q j : ℕ) (spot : Spot) (stack : List 
   own_branch : c.branch p ≡ Some p
   own_branch =
       let counts : row_length (row (map (tree_at c.trees) ks)) ≡ length ks = length_row c ks in
-      let two : 1 < row_length (row (map (tree_at c.trees) ks)) = subst (λ r. 1 < row_length r) b.rows v.running.2.0.1 in
+      let two : 1 < row_length (row (map (tree_at c.trees) ks)) =
+          subst (λ r. 1 < row_length r) b.rows v.running.2.0.1 in
       All-at c (λ k. c.branch k ≡ branch_if ks b.outer k) ks j p b.own at
       ∙ branch_own ks b.outer p (omega (arith, two, counts))
 

@@ -15,7 +15,9 @@ use Rattle.grep_args.specs.Effects.{is_empty}
 use Rattle.grep_multi.specs.declared.cut.LineStart.{LineStart}
 use Rattle.grep_multi.specs.declared.cut.Reach.{Reach}
 use Rattle.grep_multi.specs.Blocks.{end_of, lines_before, last_line}
-use Rattle.grep_multi.specs.Given.{lines_at, EndsAt, Cuts, Extends, Reaches}
+use Rattle.line_feed.specs.Lines.{row_of}
+use Rattle.line_feed.specs.declared.feed.Line.{Line}
+use Rattle.grep_multi.specs.Given.{lines_at, EndsAt, Cuts, Extends, Reaches, IsLine}
 
 -- the first line of bytes
 abbrev pub first_line : EndKind → ℕ → ℕ → List ℕ → ℕ → Row
@@ -60,7 +62,7 @@ line-step kind most number offset rest k some room is =
     (cases_lt k (length rest))
 
 -- where it ends
-line-end : (kind : EndKind) (number offset : ℕ) (rest : List ℕ) (k : ℕ) → k ≤ length rest
+pub line-end : (kind : EndKind) (number offset : ℕ) (rest : List ℕ) (k : ℕ) → k ≤ length rest
     → end_of (first_line kind number offset rest k) ≡ offset + (k + newline_len kind rest k)
 line-end kind number offset rest k within =
     let n = newline_len kind rest k in
@@ -79,6 +81,10 @@ line-newline : (kind : EndKind) (rest : List ℕ) (k : ℕ) → k ≤ length res
 line-newline kind rest k within =
     let n = newline_len kind rest k in
     has_some _ n (range-long rest k (k + n) (omega arith) (newline-within kind rest k within) ∙ omega arith)
+
+first_or : Row → List Row → Row
+first_or other [] = other
+first_or other (line ∷ more) = line
 
 module _ (kind : EndKind) (text : List ℕ) where
   pub cut-within : (at k : ℕ) → at ≤ length text → k ≡ first_newline kind (drop at text)
@@ -133,6 +139,38 @@ module _ (kind : EndKind) (text : List ℕ) where
         many = lines;
         some = let more = cut-some from.at k some is in omega (arith, more, behind);
         within = let fits = cut-within from.at k (omega arith) is in omega (arith, fits, behind);
+      }
+
+  pub line-is : (from : LineStart) (line : Line) (k : ℕ) → from.at < length text
+      → k ≡ first_newline kind (drop from.at text) → line.bytes.now ≡ take k (drop from.at text)
+      → line.end.now ≡ slice_range (drop from.at text) k (k + newline_len kind (drop from.at text) k)
+      → line.number ≡ from.lines + 1 → line.offset ≡ from.at → IsLine kind text from line
+  line-is from line k some is bytes newline number offset =
+      let rest = drop from.at text in
+      let n = newline_len kind rest k in
+      let long = length-drop from.at text in
+      let high = (first-least kind rest).high in
+      let within : k ≤ length rest = omega (arith, is, high) in
+      let front = ap length bytes ∙ length-take-le k rest within in
+      let back = ap length newline ∙ range-long rest k (k + n) (omega arith) (newline-within kind rest k within) in
+      let size : length line.bytes.now + length line.end.now ≡ k + n = omega (arith, front, back) in
+      let step = line-step kind (length text) (from.lines + 1) from.at rest k (omega (arith, long))
+      (omega (arith, long)) is in
+      let more = cut-some from.at k some is in
+      let fits = cut-within from.at k (omega arith) is in
+      record {
+        lines =
+            step ∙ (λ i. row_with (sym bytes i) (sym newline i) (sym number i) (sym offset i)
+            ∷ (rows_from kind (length text) (from.lines + 1 + 1) (from.at + (k + n)) (drop (k + n) rest) End).rows)
+            ∙ ap (λ l. row_of line ∷ l)
+            (ap (λ l. (rows_from kind (length text) (from.lines + 1 + 1) (from.at + (k + n)) l End).rows)
+            (drop-drop (k + n) from.at text)
+            ∙ ap (λ m. (rows_from kind (length text) (from.lines + 1 + 1) (from.at + m) (drop (from.at + m) text)
+            End).rows) (sym size));
+        offset = offset;
+        number = number;
+        some = omega (arith, more, size);
+        within = omega (arith, fits, size);
       }
 
   -- no line begins at the end
@@ -206,3 +244,14 @@ module _ (kind : EndKind) (text : List ℕ) where
           few = rest.behind.few;
         };
       }
+
+  -- its number
+  pub first-number : (at : LineStart) (line : Row) (more : List Row) → at.at < length text
+      → lines_at kind text at ≡ line ∷ more → line.number ≡ at.lines + 1
+  unfolding first_or
+  first-number at line more some is =
+      let rest = drop at.at text in
+      let long = length-drop at.at text in
+      let step = line-step kind (length text) (at.lines + 1) at.at rest (first_newline kind rest) (omega (arith, long))
+      (omega (arith, long)) refl in
+      ap (λ l. (first_or (row_with [] [] (at.lines + 1) 0) l).number) (sym is ∙ step)

@@ -8,7 +8,7 @@ use Rattle.ordered_search.specs.PlaceAnswer.{Outcome}
 use Rattle.line_feed.specs.Rows.{Row}
 use Rattle.grep_args.specs.declared.plan.GrepPlan.{GrepPlan}
 use Rattle.pat_tree.specs.Pattern.{Pattern}
-use Rattle.pcre2_api.specs.Answers.{found, none, error}
+use Rattle.grep_match.specs.pcre2_api.Answers.{found, none, error}
 use Rattle.grep_match.specs.declared.found.Place.{Place}
 use Rattle.pat_tree.specs.declared.options.MatchOptions.{MatchOptions}
 use Rattle.grep_match.specs.Compiled.{Keeping, patterns_in}

@@ -1,14 +1,15 @@
 -- The whole lines before a read that failed, and the input that is held.
-use Rattle.std.proofs.Common.{◌≡◌, ◌∙◌, inl, ℕ, ◌+◌, ◌-◌, ◌<◌, ◌≤◌, true, false}
+use Rattle.std.proofs.Common.{◌≡◌, ◌≢◌, ◌∙◌, inl, ℕ, ◌+◌, ◌-◌, ◌<◌, ◌≤◌, true, false}
 use Rattle.std.proofs.Common.{List, [], ◌∷◌, ◌++◌, length, take, drop, slice_range, refl, sym, ap, subst, arith}
 use Rattle.std.proofs.Common.{⊎_elim, append-nil, append_assoc, length-append, length-drop, Ok, Err, take-add}
+use Rattle.std.proofs.Common.{Result}
 use Rattle.std.proofs.lemmas.Bool.{cases_lt, both_ways}
 use Rattle.std.proofs.lemmas.List.{take_all, take-append-drop}
 use Rattle.std.proofs.Math.Seq.{take-append_seam}
 use Rattle.byte_lanes.specs.declared.line_end.EndKind.{EndKind}
 use Rattle.byte_lanes.specs.Newlines.{newline_len}
 use Rattle.byte_lanes.proofs.lemmas.NewlineLemmas.{rest_whole}
-use Rattle.line_feed.specs.Rows.{Row, Rows, Ending, End, Fault, first_newline, has_no_row, rows_from}
+use Rattle.line_feed.specs.Rows.{Row, Rows, Ending, End, Fault, Limit, first_newline, has_no_row, rows_from}
 use Rattle.line_feed.proofs.Newlines.{newline-within}
 use Rattle.line_feed.proofs.RowLemmas.{first-least, no_row-true, rows-rest, rows-row, last-cut, sure-len}
 use Rattle.std.specs.Io.KnownBytes.{Consumes}
@@ -18,9 +19,10 @@ use Rattle.line_feed.specs.declared.phase.Phase.{Phase}
 use Rattle.line_feed.specs.declared.phase.Phase.TheVariants as phase
 use Rattle.grep_multi.specs.declared.held.Came.TheVariants as came
 use Rattle.grep_multi.specs.declared.held.Held.{Held}
+use Rattle.grep_multi.specs.declared.held.HoldError.{HoldError}
 use Rattle.grep_multi.specs.declared.held.HoldError.TheVariants.{TooLarge, Memory}
 use Rattle.grep_multi.specs.Taken.{Takes, TakesUpTo}
-use Rattle.grep_multi.specs.Held.{bytes_of, lines_of, held_by, HoldsInput, Holds, CountsFault}
+use Rattle.grep_multi.specs.Held.{bytes_of, lines_of, held_by, HoldsInput, Holds, CountsFault, IsGone}
 use Rattle.grep_multi.proofs.Taking.{takes-stands}
 
 -- these bytes were passed over, all of whole lines
@@ -119,10 +121,10 @@ module _ (kind : EndKind) (bytes rest : List ℕ) (p : Passed kind bytes rest) w
 -- what is held of the input
 
 consumed : (bytes : List ℕ) (before after : Told) (p : Phase) → Takes [] bytes before after p
-    → length bytes ≤ 16842752
-    → (l : List ℕ) × Consumes before.left after.left l × (length l ≤ 16842752)
-consumed bytes before after p t few =
-    (bytes, subst (Consumes before.left after.left) (sym t.all) t.left, few)
+    → length bytes ≤ 16842752 → (size : ℕ) (result : Result Held HoldError) → IsGone (length bytes) size result
+    → (l : List ℕ) × Consumes before.left after.left l × (length l ≤ 16842752) × IsGone (length l) size result
+consumed bytes before after p t few size result gone =
+    (bytes, subst (Consumes before.left after.left) (sym t.all) t.left, few, gone)
 
 module _ (kind : EndKind) (bytes : List ℕ) (before after : Told) where
   pub too-large : TakesUpTo 16777216 bytes before after came.More → HoldsInput kind before after (Err TooLarge)
@@ -134,7 +136,7 @@ module _ (kind : EndKind) (bytes : List ℕ) (before after : Told) where
         holds = (let long = ap length s.bytes in let most = t.more refl in
             omega (arith, long, most, length-append bytes s.more));
         counts = t.takes.met.0;
-        taken = consumed bytes before after phase.Open t.takes t.room;
+        taken = consumed bytes before after phase.Open t.takes t.room (length s.input.bytes) (Err TooLarge) tt;
       }
 
   pub no-memory : Takes [] bytes before after phase.Open → length bytes ≤ 16777216 + 65536
@@ -146,8 +148,14 @@ module _ (kind : EndKind) (bytes : List ℕ) (before after : Told) where
         hears = s.hears;
         holds = tt;
         counts = t.met.0;
-        taken = consumed bytes before after phase.Open t few;
+        taken = consumed bytes before after phase.Open t few (length s.input.bytes) (Err Memory) tt;
       }
+
+  end-whole : End ≢ Limit
+  end-whole e = cc
+
+  fault-whole : Fault ≢ Limit
+  fault-whole e = cc
 
   pub held-whole : (held : Held) → TakesUpTo 16777216 bytes before after came.End → held.text ≡ bytes
       → held.faulted ≡ false → HoldsInput kind before after (Ok held)
@@ -166,9 +174,11 @@ module _ (kind : EndKind) (bytes : List ℕ) (before after : Told) where
               short = (let same = ap length text in omega (arith, same, few));
               text = text;
               faulted = faulted;
+              whole = λ e. end-whole e;
             });
         counts = subst (λ b. CountsFault b before.faults after.faults) (sym faulted) t.takes.met.0;
-        taken = consumed bytes before after phase.Ended t.takes t.room;
+        taken = consumed bytes before after phase.Ended t.takes t.room (length s.input.bytes) (Ok held)
+            (let same = ap length all in omega (arith, same));
       }
 
   pub held-part : (held : Held) → TakesUpTo 16777216 bytes before after came.Failed
@@ -184,7 +194,14 @@ module _ (kind : EndKind) (bytes : List ℕ) (before after : Told) where
         input = s.input;
         hears = s.hears;
         holds = subst (λ x. Holds kind x held) is
-            (record { few = few; short = omega (arith, less, few); text = text; faulted = faulted });
+            (record {
+              few = few;
+              short = omega (arith, less, few);
+              text = text;
+              faulted = faulted;
+              whole = λ e. fault-whole e;
+            });
         counts = subst (λ b. CountsFault b before.faults after.faults) (sym faulted) t.takes.met.0;
-        taken = consumed bytes before after phase.Missed t.takes t.room;
+        taken = consumed bytes before after phase.Missed t.takes t.room (length s.input.bytes) (Ok held)
+            (let same = ap length all in omega (arith, same));
       }

@@ -12,7 +12,7 @@ use Rattle.line_feed.specs.Rows.{Row}
 use Rattle.grep_args.specs.declared.plan.GrepPlan.{GrepPlan}
 use Rattle.pat_tree.specs.Pattern.{Pattern}
 use Rattle.pcre2_errors.specs.MatchErrors.{minus}
-use Rattle.pcre2_api.specs.Answers.{found, none, error}
+use Rattle.grep_match.specs.pcre2_api.Answers.{found, none, error}
 use Rattle.grep_match.specs.declared.found.Place.{Place}
 use Rattle.grep_match.specs.declared.search.Answer.TheVariants as told
 use Rattle.grep_match.specs.declared.search.Verdict.{Verdict}

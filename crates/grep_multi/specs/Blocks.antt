@@ -10,7 +10,7 @@ use Rattle.grep_args.specs.declared.plan.GrepPlan.{GrepPlan}
 use Rattle.grep_args.specs.Effects.{is_empty}
 use Rattle.pat_tree.specs.Pattern.{Pattern}
 use Rattle.pcre2_errors.specs.MatchErrors.{minus}
-use Rattle.pcre2_api.specs.Answers.{found, none, error}
+use Rattle.grep_match.specs.pcre2_api.Answers.{found, none, error}
 use Rattle.grep_match.specs.PatternTexts.{line_end}
 use Rattle.grep_match.specs.Matches.{Matches, first_answer, limits, not_empty, shows_each, with_match}
 use Rattle.grep_multi.specs.Held.{lines_of}

@@ -2,6 +2,8 @@
 use Rattle.std.specs.Prelude.{◌≡◌, ℕ, ◌+◌, ◌≤◌, ◌<◌, not, List, ◌∷◌, ◌++◌, length, drop}
 use Rattle.byte_lanes.specs.declared.line_end.EndKind.{EndKind}
 use Rattle.line_feed.specs.Rows.{Row, End, rows_from}
+use Rattle.line_feed.specs.Lines.{row_of}
+use Rattle.line_feed.specs.declared.feed.Line.{Line}
 use Rattle.grep_args.specs.declared.plan.GrepPlan.{GrepPlan}
 use Rattle.grep_args.specs.Effects.{is_empty}
 use Rattle.pat_tree.specs.Pattern.{Pattern}
@@ -35,6 +37,19 @@ pub record Cuts (kind : EndKind) (text : List ℕ) (from : LineStart) (reach : R
   pub many : reach.behind.lines ≡ from.lines + 1
   pub some : from.at < reach.behind.at
   pub within : reach.behind.at ≤ length text
+
+-- where the line behind one begins that begins at a place
+abbrev pub past : LineStart → Line → LineStart
+past from line =
+    record { at = from.at + (length line.bytes.now + length line.end.now); lines = from.lines + 1 }
+
+-- this is the line at a place
+pub record IsLine (kind : EndKind) (text : List ℕ) (from : LineStart) (line : Line) : Type 0 where
+  pub lines : lines_at kind text from ≡ row_of line ∷ lines_at kind text (past from line)
+  pub offset : line.offset ≡ from.at
+  pub number : line.number ≡ from.lines + 1
+  pub some : 0 < length line.bytes.now + length line.end.now
+  pub within : from.at + (length line.bytes.now + length line.end.now) ≤ length text
 
 -- lines reach at least as far as others, and no further than the text
 pub record IsBehind (text : List ℕ) (old new : Reach) : Type 0 where

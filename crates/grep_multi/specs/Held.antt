@@ -1,5 +1,5 @@
 -- An input that is held whole (pcre2grep, "OPTIONS", -M): what the source told → the input → the bytes that are held.
-use Rattle.std.specs.Prelude.{◌≡◌, ℕ, ◌≤◌, ◌<◌, Bool, true, false, List, ◌++◌, length, flat_map, ⊤, Result, Ok, Err}
+use Rattle.std.specs.Prelude.{◌≡◌, ◌≢◌, ℕ, ◌≤◌, ◌<◌, Bool, true, false, List, ◌++◌, length, flat_map, ⊤, Result, Ok, Err}
 use Rattle.std.specs.Io.KnownBytes.{Consumes}
 use Rattle.pcre_io.specs.Told.{Told}
 use Rattle.pcre_io.specs.Causes.{Rose}
@@ -39,6 +39,7 @@ pub record Holds (kind : EndKind) (input : Input) (held : Held) : Type 0 where
   pub short : length held.text ≤ greatest
   pub text : held.text ≡ held_by kind input.bytes input.ending
   pub faulted : held.faulted ≡ is_fault input.ending
+  pub whole : input.ending ≢ Limit
 
 -- Only want of memory may come in place of the answer that the input has.
 abbrev pub HoldsTo : EndKind → Input → Result Held HoldError → Type 0
@@ -55,6 +56,11 @@ abbrev pub Counts : Told → Told → Result Held HoldError → Type 0
 Counts before after (Ok held) = CountsFault held.faulted before.faults after.faults
 Counts before after (Err e) = after.faults ≡ before.faults
 
+-- no more than the input was taken, where it is held
+abbrev pub IsGone : ℕ → ℕ → Result Held HoldError → Type 0
+IsGone taken size (Ok held) = taken ≤ size
+IsGone taken size (Err e) = ⊤
+
 -- The input that a source stood for is held, or is refused; at most 16,842,752 bytes were taken.
 pub record HoldsInput (kind : EndKind) (before after : Told) (result : Result Held HoldError)
     : Type 0 where
@@ -63,3 +69,4 @@ pub record HoldsInput (kind : EndKind) (before after : Told) (result : Result He
   pub holds : HoldsTo kind input result
   pub counts : Counts before after result
   pub taken : (bytes : List ℕ) × Consumes before.left after.left bytes × (length bytes ≤ 16842752)
+      × IsGone (length bytes) (length input.bytes) result

@@ -1,3 +1,4 @@
+pub use Rattle.grep_match.specs as grep_match
 pub mod Taken
 pub mod Held
 pub mod Blocks

@@ -17,8 +17,8 @@ use grep_args::GrepPlan;
 use grep_match::{
     Answer, Patterns, Verdict, Workspace, first_answer, limits, line_end, shows_each,
 };
+use pat_tree::MatchOptions;
 use pcre_io::Memory;
-use pcre2_api::MatchOptions;
 use uni_text::check;
 
 /// The match error of a text that isn't UTF-8.

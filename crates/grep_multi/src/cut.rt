@@ -1,8 +1,9 @@
 //! Lines of a text that is held.
-ghost use Rattle.std.specs.Prelude.{◌≡◌, ◌≤◌, ◌<◌, length};
-ghost use Rattle.grep_multi.specs.Given.{Cuts, Extends};
+ghost use Rattle.std.specs.Prelude.{◌≡◌, ◌≤◌, ◌<◌, ◌+◌, ◌^◌, length};
+ghost use Rattle.grep_multi.specs.Given.{Cuts, Extends, IsLine, past};
 
 use byte_lanes::{EndKind, find_line_end};
+use line_feed::Line;
 
 /// Where a line of a text begins.
 #[derive(Clone, Copy, Debug, PartialEq, Eq)]
@@ -11,6 +12,20 @@ pub struct LineStart {
     pub at: usize,
     /// How many lines stand before it.
     pub lines: u64,
+}
+
+impl LineStart {
+    /// Where the line behind one that begins here does.
+    pub fn past(&self, line: &Line<'_>) -> LineStart
+        requires within { self.now.at + (length line.now.bytes.now + length line.now.end.now) < 2 ^ 63 }
+        requires few { self.now.lines < 2 ^ 63 }
+        ensures { result ≡ past self.now line.now }
+    {
+        LineStart {
+            at: self.at + (line.bytes.len() + line.end.len()),
+            lines: self.lines + 1,
+        }
+    }
 }
 
 /// How far lines of a text reach.
@@ -22,7 +37,23 @@ pub struct Reach {
     pub has_newline: bool,
 }
 
-// The line that begins at a place.
+/// The line that begins at a place of a text.
+pub fn line_at<'a>(text: &'a [u8], kind: EndKind, from: LineStart) -> Line<'a>
+    requires some { from.at < length text.now }
+    requires few { from.lines ≤ from.at }
+    ensures { IsLine kind text.now from result }
+{
+    let rest = &text[from.at..];
+    let end = find_line_end(rest, 0, kind);
+    Line {
+        bytes: &rest[..end.at],
+        end: &rest[end.at..end.at + end.len],
+        number: from.lines + 1,
+        offset: from.at as u64,
+    }
+}
+
+// How far the line that begins at a place reaches.
 pub fn cut_line(text: &[u8], kind: EndKind, from: LineStart) -> Reach
     requires some { from.at < length text.now }
     requires few { from.lines ≤ from.at }

@@ -6,5 +6,6 @@ mod cut;
 mod held;
 
 pub use blocks::{Block, Search};
-pub use cut::{LineStart, Reach};
+pub use cut::{LineStart, Reach, line_at};
+pub use grep_match::{MatchList, Mode, Patterns, Place, Verdict, Workspace, line_end, mode_of};
 pub use held::{Held, HoldError, Text, hold};

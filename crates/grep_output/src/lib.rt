@@ -15,7 +15,7 @@ pub use earlier::EarlierLines;
 pub use ended::{Ended, FileEnd, Stop};
 pub use lines::write_line;
 pub use messages::{write_ended, write_error, write_message, write_too_many};
-pub use parts::write_matches;
+pub use parts::{write_in_line, write_match, write_matches};
 pub use shows::{Show, Treatment, most_selected, show_in, tells_binary, treatment_by};
 pub use state::State;
 pub use summary::write_summary;

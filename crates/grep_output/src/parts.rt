@@ -112,8 +112,8 @@ fn length_of(place: Place) -> usize
     place.to - place.keep
 }
 
-// Writes where a match stands from the beginning of its line, and its length.
-fn write_in_line<O: Sink>(
+/// Writes where a match stands from the beginning of its line, and its length.
+pub fn write_in_line<O: Sink>(
     out: &mut O,
     plan: &GrepPlan,
     name: &str,
@@ -175,8 +175,8 @@ fn write_in_file<O: Sink>(
     )
 }
 
-// Writes a match, of which these are the groups.
-fn write_match<O: Sink>(
+/// Writes a match, of which these are the groups.
+pub fn write_match<O: Sink>(
     out: &mut O,
     plan: &GrepPlan,
     name: &str,

@@ -480,6 +480,7 @@ fn is_told_of(code: &Code) -> bool {
     let info = code.info();
     (info.groups, info.max_lookbehind, info.can_be_empty) == (1, 1, true)
         && code.mark_name(0).is_none()
+        && code.first_byte().is_none()
         && !code.options().anchored
 }
 
@@ -487,6 +488,13 @@ fn is_told_of(code: &Code) -> bool {
 fn a_pattern_tells_of_itself(rt: HostRuntime) -> Result<(), Fail> {
     let code = Code::compile(rt.alloc(), b"(?i)\\b(a)?", Options::PLAIN)?;
     assert!(&rt; is_told_of(&code));
+    Ok(())
+}
+
+#[test]
+fn a_first_byte_is_told(rt: HostRuntime) -> Result<(), Fail> {
+    let code = Code::compile(rt.alloc(), b"(cat|cow|coyote)s?", Options::PLAIN)?;
+    assert!(&rt; code.first_byte() == Some(b'c'));
     Ok(())
 }
 

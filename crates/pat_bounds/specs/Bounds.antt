@@ -1,6 +1,6 @@
 -- How many Steps and states a search of a part of a pattern gives at most, and how many units its paths hold beside
 -- those that they began with (docs/SPEED.md, "A text that every match needs").
-use Rattle.std.specs.Prelude.{ℕ, ◌+◌, ◌-◌, ◌*◌, ◌^◌, ◌==◌, ◌&&◌, ◌||◌, nat_le, nat_lt, not, max, Bool, true, false}
+use Rattle.std.specs.Prelude.{ℕ, zero, suc, ◌+◌, ◌-◌, ◌*◌, ◌^◌, ◌==◌, ◌&&◌, ◌||◌, nat_le, nat_lt, not, max, Bool, true, false}
 use Rattle.std.specs.Prelude.{if◌then◌else◌, Option, Some, None}
 use Rattle.pat_tree.specs.declared.nodes.Item.{Item}
 use Rattle.pat_tree.specs.declared.nodes.Item.TheVariants.{Char, Class}
@@ -109,10 +109,28 @@ in_turns low high a = record {
 abbrev pub is_left_once : Bound → Bool
 is_left_once a = nat_le a.states.times 1 && (a.states.degree == 0)
 
--- a repeat of a group that is left once at most: else its turns would branch
+-- a turn of a, with a Step and a unit of its own
+abbrev pub one_turn : Bound → Bound
+one_turn a = record { steps = plus (steady 1) a.steps; states = a.states; units = plus (steady 1) a.units }
+
+-- the same, and it may be left before
+abbrev pub or_left : Bound → Bound
+or_left a = record a { states = plus (steady 1) a.states }
+
+-- So many turns of a at most: each begins anew at each state of the one before.
+abbrev pub few_turns : ℕ → Bound → Bound
+few_turns zero a = once
+few_turns (suc n) a = or_left (followed (one_turn a) (few_turns n a))
+
+-- turns that branch multiply, so without a maximum there is no bound
+abbrev pub branching : ℕ → Option ℕ → Bound → Option Bound
+branching low None a = None
+branching low (Some high) a = Some (few_turns (max low high) a)
+
+-- a repeat of a group
 abbrev pub repeated : ℕ → Option ℕ → Option Bound → Option Bound
 repeated low high None = None
-repeated low high (Some a) = if is_left_once a then Some (in_turns low high a) else None
+repeated low high (Some a) = if is_left_once a then Some (in_turns low high a) else branching low high a
 
 -- Where both are known.
 abbrev pub both : (Bound → Bound → Bound) → Option Bound → Option Bound → Option Bound

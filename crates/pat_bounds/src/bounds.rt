@@ -15,6 +15,9 @@ use char_sets::ClassTable;
 use pat_tree::{Item, Memory, Node, NodeId, Tree};
 use std::alloc::Global;
 
+// Of more turns that branch no bound is told: it would be past each limit.
+const FEW: u16 = 16;
+
 /// A number that grows with a subject: `times` times a power of one more than the subject's length.
 #[derive(Clone, Copy, Debug, PartialEq, Eq)]
 pub struct Growth {
@@ -188,6 +191,51 @@ impl Bound {
         })
     }
 
+    /// A turn of this part, with a Step and a unit of its own.
+    fn one_turn(self) -> Option<Bound>
+        ensures { IfSome result (λ x. x ≡ spec.one_turn self) }
+    {
+        Some(Bound {
+            steps: Growth::steady(1).plus(self.steps)?,
+            states: self.states,
+            units: Growth::steady(1).plus(self.units)?,
+        })
+    }
+
+    /// The same, where it may be left before it too.
+    fn or_left(self) -> Option<Bound>
+        ensures { IfSome result (λ x. x ≡ spec.or_left self) }
+    {
+        Some(Bound {
+            steps: self.steps,
+            states: Growth::steady(1).plus(self.states)?,
+            units: self.units,
+        })
+    }
+
+    /// So many turns of this part at most, each of which begins anew wherever the one before is left.
+    fn few_turns(self, count: u16) -> Option<Bound>
+        ensures { IfSome result (λ x. x ≡ spec.few_turns count self) }
+    {
+        let turn = self.one_turn()?;
+        let mut whole = Bound::once();
+        for _ in 0..count {
+            whole = turn.followed(whole)?.or_left()?;
+        }
+        Some(whole)
+    }
+
+    /// Turns of this part, which may be left at several places. None for many, since their ways multiply.
+    fn branching(self, min: u16, max: Option<u16>) -> Option<Bound>
+        ensures { Refines result (spec.branching min max self) }
+    {
+        let most = min.max(max?);
+        if most > FEW {
+            return None;
+        }
+        self.few_turns(most)
+    }
+
     /// A group of these branches, which has a number where it captures.
     fn grouped(self, number: Option<u16>) -> Option<Bound>
         ensures { IfSome result (λ x. x ≡ spec.grouped number self) }
@@ -337,10 +385,11 @@ fn repeated(body: Option<Bound>, min: u16, max: Option<u16>) -> Option<Bound>
     ensures { Refines result (repeated min max body) }
 {
     let body = body?;
-    if !body.is_left_once() {
-        return None;
+    if body.is_left_once() {
+        body.in_turns(min, max)
+    } else {
+        body.branching(min, max)
     }
-    body.in_turns(min, max)
 }
 
 fn closed(branches: Option<Bound>) -> Option<Bound>

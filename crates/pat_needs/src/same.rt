@@ -3,7 +3,7 @@ use crate::text::ByteText;
 use byte_lanes::{ByteSet, find_in_set};
 
 // Each byte at its own place: where a set is looked for there, its members are found.
-const BYTES: [u8; 256] = [
+pub(crate) const BYTES: [u8; 256] = [
     0, 1, 2, 3, 4, 5, 6, 7, 8, 9, 10, 11, 12, 13, 14, 15, 16, 17, 18, 19, 20, 21, 22, 23, 24, 25,
     26, 27, 28, 29, 30, 31, 32, 33, 34, 35, 36, 37, 38, 39, 40, 41, 42, 43, 44, 45, 46, 47, 48, 49,
     50, 51, 52, 53, 54, 55, 56, 57, 58, 59, 60, 61, 62, 63, 64, 65, 66, 67, 68, 69, 70, 71, 72, 73,

@@ -1,6 +1,7 @@
 //! How common bytes and texts are, of which the rarest is looked for. No answer goes by it.
+use crate::same::BYTES;
 use crate::text::ByteText;
-use byte_lanes::ByteSet;
+use byte_lanes::{ByteSet, find_in_set};
 
 // A weight tells how many of so many bytes of a usual text are in a set: the weight of a place where any byte may
 // stand.
@@ -28,16 +29,22 @@ pub(crate) fn weight_of(bytes: &ByteSet) -> Option<u32> {
     if is_common(bytes) {
         return None;
     }
-    let mut weight = 0u32;
-    for b in 0..256u32 {
-        if bytes.has(b as u8) {
-            weight = weight.saturating_add(commonness(b as u8));
+    let weight = sum_of(bytes, COMMON);
+    if weight > COMMON { None } else { Some(weight) }
+}
+
+/// The sum over the members of a set, of which those past the one that makes it greater than `most` are left out.
+fn sum_of(bytes: &ByteSet, most: u32) -> u32 {
+    let mut sum = 0u32;
+    let mut from = 0;
+    'members: while from < BYTES.len() && sum <= most {
+        let at = find_in_set(&BYTES, from, bytes);
+        if at < BYTES.len() {
+            sum = sum.saturating_add(commonness(BYTES[at]));
         }
-        if weight > COMMON {
-            return None;
-        }
+        from = at + 1;
     }
-    Some(weight)
+    sum
 }
 
 /// How common the two cases of a character are, with a byte past ASCII unless they are short.
@@ -57,13 +64,7 @@ pub(crate) fn weight_of_cases(c: u32, is_short: bool) -> u32 {
 
 /// How common the bytes of a set are.
 fn share_of(bytes: &ByteSet) -> u32 {
-    let mut weight = 0u32;
-    for b in 0..256u32 {
-        if bytes.has(b as u8) {
-            weight = weight.saturating_add(commonness(b as u8));
-        }
-    }
-    weight.min(ANY)
+    sum_of(bytes, ANY).min(ANY)
 }
 
 /// How common a byte is: spaces most, then letters and digits, then signs.

@@ -8,6 +8,7 @@ pub mod TableForms
 pub mod NodeForms
 pub mod NodeRules
 pub mod ImageForms
+pub mod Plain
 pub mod Trees
 pub mod Piles
 pub mod Stacks

@@ -25,7 +25,7 @@ use Rattle.pat_tree.proofs.Growing.{grows_not, grows_then, makes_push, tree_on}
 use Rattle.pat_tree.proofs.Keeping.{greatest-append, sound_push}
 use Rattle.pat_tree.proofs.Loose.{fresh_at_end}
 use Rattle.pat_save.specs.Checked.{AreChecked, IsChecked, IsCheckedSaved, IsClass, IsName, IsNode, IsVerbName}
-use Rattle.pat_save.specs.Sized.{AreSized, IsLoaded, IsSized, IsSizedNode, IsSizedPart}
+use Rattle.pat_save.specs.Sized.{AreSized, IsLoaded, IsSized, IsSizedNode, IsSizedPart, plain}
 use Rattle.pat_save.specs.declared.errors.LoadError.{LoadError}
 use Rattle.pat_save.specs.declared.errors.LoadError.TheVariants as load
 use Rattle.pat_save.specs.Reading.{◌>>=◌, Gives}
@@ -41,6 +41,7 @@ use Rattle.pat_save.proofs.ImageForms.{FitList, FitNodes, FitTables, FitsPlaced,
 use Rattle.pat_save.proofs.ImageForms.{tables_of}
 use Rattle.pat_save.proofs.Sorting.{and_both, both_true}
 use Rattle.pat_save.proofs.TableForms.{AreSizedOptions, IsNameEntry, IsSizedClass, IsText, joined_all, split_all}
+use Rattle.pat_save.proofs.Plain.{checked_plain, each_sized, image_plain, list_plain}
 use Rattle.pat_save.proofs.Turns.{kids_few}
 use Rattle.pat_save.proofs.NodeRules.{Few, NodeIs, fits, keeps}
 
@@ -82,6 +83,10 @@ last_below (x ∷ front) ks n all = last_below front ks n all.1
 pub kids_below : (ps : List Placed) (ks : List ℕ) → EndsIn ps ks → All (λ k. k < length ps) ks
 kids_below ps ks ends = All-from_recursion (λ k. k < length ps) ks
     (last_below ends.front ks (length ps) (subst (AllByRecursion (λ k. k < length ps)) ends.is (loose_below ps)))
+
+-- numbers within their types, and no place
+abbrev IsBare : TreeParts → Type 0
+IsBare t = IsSized t × All (λ p. p.at ≡ 0) t.nodes
 
 -- ---- the rules of what is read
 
@@ -156,7 +161,7 @@ names_short (x ∷ xs) all =
     let more = names_short xs all.1 in ((all.0.0, more.0), (omega (arith, all.0.1), more.1))
 
 pub tree_checked : (text : List ℕ) (t : TreeParts) → IsText t.options.utf text → FitsTree t.options text t
-    → AreSizedOptions t.options → IsChecked t text × IsSized t
+    → AreSizedOptions t.options → IsChecked t text × IsBare t
 tree_checked text t text_fits fit limit =
     let around = around_in t.options t in
     let a = both_true (list_all (λ entry. has_group t.nodes entry.group) t.names
@@ -189,28 +194,40 @@ tree_checked text t text_fits fit limit =
         verb_names = All-from_recursion (IsVerbName t.options.utf) t.verb_names fit.tables.1.0.0;
         checked = text_fits.1;
       },
-      record {
-        match_limit = some_holds (λ n. n < 2 ^ 32) t.options.match_limit limit;
-        names = All-from_recursion (λ entry. entry.group < 2 ^ 16) t.names names.1;
-        classes = classes.1;
-        nodes = All-from_recursion (λ p. IsSizedNode p.node) t.nodes sized.0;
-        places = All-from_recursion (λ p. p.at ≡ 0) t.nodes sized.1;
-      },
+      (
+        record {
+          match_limit = some_holds (λ n. n < 2 ^ 32) t.options.match_limit limit;
+          names = All-from_recursion (λ entry. entry.group < 2 ^ 16) t.names names.1;
+          classes = classes.1;
+          nodes = All-from_recursion (λ p. IsSizedNode p.node) t.nodes sized.0;
+        },
+        All-from_recursion (λ p. p.at ≡ 0) t.nodes sized.1,
+      ),
     )
 
 each_checked : (list : List Saved) → AllByRecursion FitsSaved list
-    → AllByRecursion IsCheckedSaved list × AllByRecursion (λ s. IsSized s.tree) list
+    → AllByRecursion IsCheckedSaved list × AllByRecursion (λ s. IsBare s.tree) list
 each_checked [] all = (tt, tt)
 each_checked (s ∷ list) all =
     let one = tree_checked s.text s.tree all.0.text all.0.tree all.0.options in
     let more = each_checked list all.1 in
     ((record { short = all.0.text.0; tree = one.0 }, more.0), (one.1, more.1))
 
-pub list_checked : (list : List Saved) → FitList list → AreChecked list × AreSized list
+all_sized : (list : List Saved) → AllByRecursion (λ s. IsBare s.tree) list → AllByRecursion (λ s. IsSized s.tree) list
+all_sized [] all = tt
+all_sized (s ∷ list) all = (all.0.0, all_sized list all.1)
+
+all_without_places : (list : List Saved) → AllByRecursion (λ s. IsBare s.tree) list
+    → AllByRecursion (λ s. All (λ p. p.at ≡ 0) s.tree.nodes) list
+all_without_places [] all = tt
+all_without_places (s ∷ list) all = (all.0.1, all_without_places list all.1)
+
+pub list_checked : (list : List Saved) → FitList list → AreChecked list × AreSized list × (plain list ≡ list)
 list_checked list fit =
     let all = each_checked list fit.0 in (
       record { few = fit.1; each = All-from_recursion IsCheckedSaved list all.0 },
-      All-from_recursion (λ s. IsSized s.tree) list all.1,
+      All-from_recursion (λ s. IsSized s.tree) list (all_sized list all.1),
+      list_plain list (all_without_places list all.1),
     )
 
 -- ---- what is checked fits
@@ -293,11 +310,11 @@ entries_fit : (xs : List NameEntry) → AllByRecursion (λ entry. IsName 128 ent
 entries_fit [] names groups = tt
 entries_fit (x ∷ xs) names groups = ((names.0, omega (arith, groups.0)), entries_fit xs names.1 groups.1)
 
-pub tree_fits : (text : List ℕ) (t : TreeParts) → length text ≤ 65536 → IsChecked t text → IsSized t
+pub tree_fits : (text : List ℕ) (t : TreeParts) → length text ≤ 65536 → IsChecked t text → IsBare t
     → FitsTree t.options text t
 tree_fits text t short is sized =
     let around = around_in t.options t in
-    let nodes = recursion_from_All (λ p. IsSizedNode p.node) t.nodes sized.nodes in
+    let nodes = recursion_from_All (λ p. IsSizedNode p.node) t.nodes sized.0.nodes in
     record {
       options_are = refl;
       most = omega (arith, most_short t.nodes nodes);
@@ -305,7 +322,7 @@ tree_fits text t short is sized =
         (
           is.rules.ordered,
           entries_fit t.names (recursion_from_All (λ entry. IsName 128 entry.name) t.names is.names)
-              (recursion_from_All (λ entry. entry.group < 2 ^ 16) t.names sized.names),
+              (recursion_from_All (λ entry. entry.group < 2 ^ 16) t.names sized.0.names),
           omega (arith, is.few_names),
         ),
         (
@@ -315,7 +332,7 @@ tree_fits text t short is sized =
                 (arith, is.rules.verb_name_count),
           ),
           (
-            joined_all (IsClass t.options.utf) IsSizedClass t.classes is.classes sized.classes,
+            joined_all (IsClass t.options.utf) IsSizedClass t.classes is.classes sized.0.classes,
             omega (arith, is.rules.class_count),
           ),
         ),
@@ -333,7 +350,7 @@ tree_fits text t short is sized =
             is.turns
             (recursion_from_All (λ p. IsNode t.options.utf text p.node) t.nodes is.nodes)
             nodes
-            (recursion_from_All (λ p. p.at ≡ 0) t.nodes sized.places),
+            (recursion_from_All (λ p. p.at ≡ 0) t.nodes sized.1),
         omega (arith, is.rules.node_count),
       );
       root = is.whole;
@@ -347,24 +364,25 @@ tree_fits text t short is sized =
           (eq-eqb (greatest (group_numbers t.nodes)) (greatest (group_numbers t.nodes)) refl);
     }
 
-each_fits : (list : List Saved) → AllByRecursion IsCheckedSaved list → AllByRecursion (λ s. IsSized s.tree) list
+each_fits : (list : List Saved) → AllByRecursion IsCheckedSaved list → AllByRecursion (λ s. IsBare s.tree) list
     → AllByRecursion FitsSaved list
 each_fits [] checked sized = tt
 each_fits (s ∷ list) checked sized = (
   record {
-    options = holds_some (λ n. n < 2 ^ 32) s.tree.options.match_limit sized.0.match_limit;
+    options = holds_some (λ n. n < 2 ^ 32) s.tree.options.match_limit sized.0.0.match_limit;
     text = (checked.0.short, checked.0.tree.checked);
     tree = tree_fits s.text s.tree checked.0.short checked.0.tree sized.0;
   },
   each_fits list checked.1 sized.1,
 )
 
-pub list_fits : (list : List Saved) → AreChecked list → AreSized list → FitList list
-list_fits list checked sized = (
-  each_fits list (recursion_from_All IsCheckedSaved list checked.each)
-      (recursion_from_All (λ s. IsSized s.tree) list sized),
-  checked.few,
-)
+pub list_fits : (list : List Saved) → AreChecked list → AreSized list → FitList (plain list)
+list_fits list checked sized =
+    let are = checked_plain list checked in (
+      each_fits (plain list) (recursion_from_All IsCheckedSaved (plain list) are.each)
+          (each_sized list (recursion_from_All (λ s. IsSized s.tree) list sized)),
+      are.few,
+    )
 
 -- ---- whole images
 
@@ -407,10 +425,10 @@ list_again list fit =
 -- ---- what reading answers
 
 pub is_found : (r : Result (List Saved) LoadError) (bytes : List ℕ) → AreBytes bytes → Gives (λ x. x) r (list_of bytes)
-    → IfOk r (λ list. AreChecked list × AreSized list × (image_of list ≡ bytes))
+    → IfOk r (λ list. AreChecked list × AreSized list × (plain list ≡ list) × (image_of list ≡ bytes))
 is_found (Ok list) bytes fit e =
     let t = list_takes bytes list fit e in
-    let c = list_checked list t.0 in (c.0, c.1, t.1)
+    let c = list_checked list t.0 in (c.0, c.1, c.2, t.1)
 is_found (Err e) bytes fit h = tt
 
 answered : (r : Result (List Saved) LoadError) (list : List Saved) → Gives (λ x. x) r (Some list) → IsLoaded r list
@@ -420,10 +438,11 @@ answered (Err load.Bad) list e = absurd cc
 answered (Err load.TooLarge) list e = absurd e
 
 pub is_loaded : (r : Result (List Saved) LoadError) (bytes : List ℕ) → Gives (λ x. x) r (list_of bytes)
-    → (list : List Saved) → AreChecked list → AreSized list → image_of list ≡ bytes → IsLoaded r list
+    → (list : List Saved) → AreChecked list → AreSized list → image_of list ≡ bytes → IsLoaded r (plain list)
 is_loaded r bytes gives list checked sized same =
-    let is : list_of bytes ≡ Some list = ap list_of (sym same) ∙ list_again list (list_fits list checked sized) in
-    answered r list (subst (λ (o : Option (List Saved)). Gives (λ x. x) r o) is gives)
+    let is : list_of bytes ≡ Some (plain list) = ap list_of (sym same ∙ sym (image_plain list))
+    ∙ list_again (plain list) (list_fits list checked sized) in
+    answered r (plain list) (subst (λ (o : Option (List Saved)). Gives (λ x. x) r o) is gives)
 
 pub never_large : (P : Type 0) (r : Result (List Saved) LoadError) (read : Option (List Saved)) → Gives (λ x. x) r read
     → IfErr r (λ e. e ≡ load.TooLarge → P)

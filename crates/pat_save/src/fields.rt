@@ -1,7 +1,9 @@
 //! The fields of an image: numbers with the least byte first, bools, options and short texts.
-ghost use Rattle.std.specs.Prelude.{◌≡◌, ◌≤◌, ◌++◌, ◌∷◌, [], length, OnOk};
+ghost use Rattle.std.specs.Prelude.{◌≡◌, ◌≤◌, ◌<◌, ◌^◌, ◌++◌, ◌∷◌, [], length, IfSome, OnOk};
+ghost use Rattle.pat_tree.specs.Rules.{number_in};
 ghost use Rattle.pat_save.specs.Checked.{IsRising};
 ghost use Rattle.pat_save.specs.Fields.{counted, two_bytes, four_bytes, bit, number_of, optional, short_text};
+ghost use Rattle.pat_save.specs.Sized.{AreShort};
 
 use pat_tree::Memory;
 
@@ -59,7 +61,8 @@ pub(crate) fn put_number(out: &mut Vec<u8>, number: u32) -> Result<(), Memory>
 
 /// Adds 0, or 1 and the number.
 pub(crate) fn put_optional_short(out: &mut Vec<u8>, number: Option<u16>) -> Result<(), Memory>
-    ensures { OnOk result (out.new.items ≡ out.old.items ++ optional two_bytes number) }
+    ensures bytes { OnOk result (out.new.items ≡ out.old.items ++ optional two_bytes number) }
+    ensures short { AreShort (number_in number) }
 {
     match number {
         None => put_byte(out, 0),
@@ -72,7 +75,8 @@ pub(crate) fn put_optional_short(out: &mut Vec<u8>, number: Option<u16>) -> Resu
 
 /// Adds 0, or 1 and the number.
 pub(crate) fn put_optional_number(out: &mut Vec<u8>, number: Option<u32>) -> Result<(), Memory>
-    ensures { OnOk result (out.new.items ≡ out.old.items ++ optional four_bytes number) }
+    ensures bytes { OnOk result (out.new.items ≡ out.old.items ++ optional four_bytes number) }
+    ensures range { IfSome number (λ n. n < 2 ^ 32) }
 {
     match number {
         None => put_byte(out, 0),
@@ -96,7 +100,8 @@ pub(crate) fn put_short_text(out: &mut Vec<u8>, text: &[u8]) -> Result<(), Memor
 /// Adds the numbers of groups, behind their count.
 pub(crate) fn put_groups(out: &mut Vec<u8>, groups: &[u16]) -> Result<(), Memory>
     requires { IsRising groups.now }
-    ensures { OnOk result (out.new.items ≡ out.old.items ++ counted two_bytes groups.now) }
+    ensures bytes { OnOk result (out.new.items ≡ out.old.items ++ counted two_bytes groups.now) }
+    ensures short { OnOk result (AreShort groups.now) }
 {
     put_number(out, groups.len() as u32)?;
     for group in groups {

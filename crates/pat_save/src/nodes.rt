@@ -2,11 +2,12 @@
 ghost use Rattle.std.specs.Prelude.{◌≡◌, ◌≤◌, ◌+◌, ◌++◌, ◌∷◌, [], length, All, OnOk};
 ghost use Rattle.pat_tree.specs.Closing.{StandInTurn};
 ghost use Rattle.pat_tree.specs.Growing.{AllUnder};
-ghost use Rattle.pat_tree.specs.Rules.{kids_of};
+ghost use Rattle.pat_tree.specs.Rules.{kids_of, number_in};
 ghost use Rattle.pat_save.specs.Checked.{IsRising, IsRisingTest, NamesRising};
 ghost use Rattle.pat_save.specs.Fields.{bit, counted, four_bytes, optional, two_bytes};
 ghost use Rattle.pat_save.specs.Image.{item_bytes, anchor_bytes, verb_bytes, test_bytes, child_bytes, limits_bytes};
 ghost use Rattle.pat_save.specs.Image.{node_bytes, placed_bytes};
+ghost use Rattle.pat_save.specs.Sized.{AreShort, IsSizedNode, groups_in};
 
 use crate::fields::{
     bit, put_byte, put_groups, put_number, put_optional_number, put_optional_short, put_short,
@@ -80,7 +81,8 @@ fn put_verb(out: &mut Vec<u8>, verb: Verb) -> Result<(), Memory>
 
 fn put_test(out: &mut Vec<u8>, test: &Cond) -> Result<(), Memory>
     requires { IsRisingTest test.now }
-    ensures { OnOk result (out.new.items ≡ out.old.items ++ test_bytes test.now) }
+    ensures bytes { OnOk result (out.new.items ≡ out.old.items ++ test_bytes test.now) }
+    ensures short { OnOk result (AreShort (groups_in test.now)) }
 {
     match test {
         Cond::AnySet(groups) => {
@@ -105,7 +107,8 @@ fn put_child(out: &mut Vec<u8>, child: Option<NodeId>) -> Result<(), Memory>
 
 /// Adds how often a repeat is made, at least and at most.
 fn put_limits(out: &mut Vec<u8>, min: u16, max: Option<u16>, lazy: bool) -> Result<(), Memory>
-    ensures { OnOk result (out.new.items ≡ out.old.items ++ limits_bytes min max lazy) }
+    ensures bytes { OnOk result (out.new.items ≡ out.old.items ++ limits_bytes min max lazy) }
+    ensures short { OnOk result (AreShort (min ∷ number_in max)) }
 {
     put_short(out, min)?;
     put_optional_short(out, max)?;
@@ -121,8 +124,9 @@ fn put_counted(out: &mut Vec<u8>, kind: u8, count: u32) -> Result<(), Memory>
 }
 
 fn put_group(out: &mut Vec<u8>, number: Option<u16>, branches: u32) -> Result<(), Memory>
-    ensures { OnOk result
+    ensures bytes { OnOk result
         (out.new.items ≡ out.old.items ++ 4 ∷ optional two_bytes number ++ four_bytes branches) }
+    ensures short { OnOk result (AreShort (number_in number)) }
 {
     put_byte(out, 4)?;
     put_optional_short(out, number)?;
@@ -137,7 +141,8 @@ fn put_one(out: &mut Vec<u8>, item: Item) -> Result<(), Memory>
 }
 
 fn put_repeat(out: &mut Vec<u8>, min: u16, max: Option<u16>, lazy: bool) -> Result<(), Memory>
-    ensures { OnOk result (out.new.items ≡ out.old.items ++ 5 ∷ limits_bytes min max lazy) }
+    ensures bytes { OnOk result (out.new.items ≡ out.old.items ++ 5 ∷ limits_bytes min max lazy) }
+    ensures short { OnOk result (AreShort (min ∷ number_in max)) }
 {
     put_byte(out, 5)?;
     put_limits(out, min, max, lazy)
@@ -150,8 +155,9 @@ fn put_one_repeat(
     max: Option<u16>,
     lazy: bool,
 ) -> Result<(), Memory>
-    ensures { OnOk result
+    ensures bytes { OnOk result
         (out.new.items ≡ out.old.items ++ 6 ∷ item_bytes item ++ limits_bytes min max lazy) }
+    ensures short { OnOk result (AreShort (min ∷ number_in max)) }
 {
     put_byte(out, 6)?;
     put_item(out, item)?;
@@ -176,8 +182,9 @@ fn put_look(
 
 fn put_cond(out: &mut Vec<u8>, test: &Cond, no: Option<NodeId>) -> Result<(), Memory>
     requires { IsRisingTest test.now }
-    ensures { OnOk result
+    ensures bytes { OnOk result
         (out.new.items ≡ out.old.items ++ 9 ∷ test_bytes test.now ++ child_bytes no) }
+    ensures short { OnOk result (AreShort (groups_in test.now)) }
 {
     put_byte(out, 9)?;
     put_test(out, test)?;
@@ -185,7 +192,8 @@ fn put_cond(out: &mut Vec<u8>, test: &Cond, no: Option<NodeId>) -> Result<(), Me
 }
 
 fn put_call(out: &mut Vec<u8>, group: u16) -> Result<(), Memory>
-    ensures { OnOk result (out.new.items ≡ out.old.items ++ 10 ∷ two_bytes group) }
+    ensures bytes { OnOk result (out.new.items ≡ out.old.items ++ 10 ∷ two_bytes group) }
+    ensures short { AreShort (group ∷ []) }
 {
     put_byte(out, 10)?;
     put_short(out, group)
@@ -193,8 +201,9 @@ fn put_call(out: &mut Vec<u8>, group: u16) -> Result<(), Memory>
 
 fn put_ref(out: &mut Vec<u8>, groups: &[u16], caseless: bool) -> Result<(), Memory>
     requires { IsRising groups.now }
-    ensures { OnOk result
+    ensures bytes { OnOk result
         (out.new.items ≡ out.old.items ++ 11 ∷ counted two_bytes groups.now ++ bit caseless ∷ []) }
+    ensures short { OnOk result (AreShort groups.now) }
 {
     put_byte(out, 11)?;
     put_groups(out, groups)?;
@@ -240,7 +249,8 @@ fn put_callout(
 fn put_node(out: &mut Vec<u8>, node: &Node) -> Result<(), Memory>
     requires few { length (kids_of node.now) ≤ 4294967295 }
     requires rising { NamesRising node.now }
-    ensures { OnOk result (out.new.items ≡ out.old.items ++ node_bytes node.now) }
+    ensures bytes { OnOk result (out.new.items ≡ out.old.items ++ node_bytes node.now) }
+    ensures short { OnOk result (IsSizedNode node.now) }
 {
     match node {
         Node::Empty => put_byte(out, 0),
@@ -283,7 +293,9 @@ pub(crate) fn put_nodes(out: &mut Vec<u8>, tree: &Tree) -> Result<(), Memory>
     requires whole { AllUnder tree.now.nodes tree.now.root }
     requires turns { StandInTurn tree.now.nodes }
     requires rising { All (λ p. NamesRising p.node) tree.now.nodes }
-    ensures { OnOk result (out.new.items ≡ out.old.items ++ counted placed_bytes tree.now.nodes) }
+    ensures bytes { OnOk result
+        (out.new.items ≡ out.old.items ++ counted placed_bytes tree.now.nodes) }
+    ensures short { OnOk result (All (λ p. IsSizedNode p.node) tree.now.nodes) }
 {
     let count = node_count(tree);
     put_number(out, count)?;

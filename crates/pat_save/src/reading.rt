@@ -4,7 +4,7 @@ ghost use Rattle.pat_tree.specs.Refs.{has_group, marked};
 ghost use Rattle.pat_save.specs.Checked.{AreChecked};
 ghost use Rattle.pat_save.specs.Grown.{IsGrown};
 ghost use Rattle.pat_save.specs.Image.{image_of};
-ghost use Rattle.pat_save.specs.Sized.{AreSized, IsLoaded};
+ghost use Rattle.pat_save.specs.Sized.{AreSized, IsLoaded, plain};
 ghost use Rattle.pat_save.specs.declared.errors.LoadError.TheVariants as load;
 ghost use Rattle.pat_save.specs.declared.saved.Saved.{Saved};
 ghost use Rattle.pat_save.specs.Pile.{ids_of};
@@ -214,14 +214,15 @@ fn take_list(alloc: Global, bytes: &[u8]) -> Result<SavedList, LoadError>
 }
 
 /// The patterns that the bytes are the image of, each a checked tree with its text; a node's place
-/// in its pattern isn't saved, and is 0. `TooLarge` comes exactly where there are more than
+/// in its pattern isn't saved, and is 0. What [`write`](crate::write) gives is read as the same
+/// patterns but for these places. `TooLarge` comes exactly where there are more than
 /// 16,777,216 bytes, and is tested first; `Bad` exactly where these are the image of no such list.
 /// Want of memory may come at any bytes.
 pub fn read(alloc: Global, bytes: &[u8]) -> Result<SavedList, LoadError>
-    ensures found { IfOk result
-        (λ list. AreChecked list × AreSized list × (image_of list ≡ bytes.now)) }
+    ensures found { IfOk result (λ list. AreChecked list × AreSized list × (plain list ≡ list)
+        × (image_of list ≡ bytes.now)) }
     ensures only { (list : List Saved) → AreChecked list → AreSized list
-        → image_of list ≡ bytes.now → IsLoaded result list }
+        → image_of list ≡ bytes.now → IsLoaded result (plain list) }
     ensures large { 16777216 < length bytes.now → result ≡ Err load.TooLarge }
     ensures small { IfErr result (λ e. e ≡ load.TooLarge → 16777216 < length bytes.now) }
 {

@@ -1,9 +1,10 @@
 //! What an image has of a pattern besides its nodes: options, names and classes.
-ghost use Rattle.std.specs.Prelude.{◌≡◌, ◌≤◌, ◌++◌, length, All, OnOk};
+ghost use Rattle.std.specs.Prelude.{◌≡◌, ◌≤◌, ◌<◌, ◌^◌, ◌++◌, length, All, IfSome, OnOk};
 ghost use Rattle.pat_save.specs.Fields.{counted, short_text};
 ghost use Rattle.pat_save.specs.Image.{flags_of, newline_place, bsr_place, options_bytes};
 ghost use Rattle.pat_save.specs.Image.{set_place, set_bytes, part_bytes, class_bytes, name_bytes};
 ghost use Rattle.pat_save.specs.Image.{tables_bytes};
+ghost use Rattle.pat_save.specs.Sized.{IsSizedPart, IsSizedSet};
 
 use crate::fields::{
     number_of, put_byte, put_number, put_optional_number, put_short, put_short_text, two_bits,
@@ -63,7 +64,8 @@ fn bsr_place(bsr: Bsr) -> u8
 
 /// Adds the options of a pattern.
 pub(crate) fn put_options(out: &mut Vec<u8>, options: &Options) -> Result<(), Memory>
-    ensures { OnOk result (out.new.items ≡ out.old.items ++ options_bytes options.now) }
+    ensures bytes { OnOk result (out.new.items ≡ out.old.items ++ options_bytes options.now) }
+    ensures range { OnOk result (IfSome options.now.match_limit (λ n. n < 2 ^ 32)) }
 {
     put_number(out, number_of(&flags_of(options)))?;
     put_byte(out, newline_place(options.newline))?;
@@ -97,7 +99,8 @@ fn set_place(set: SetName) -> u8
 }
 
 fn put_set(out: &mut Vec<u8>, set: SetName) -> Result<(), Memory>
-    ensures { OnOk result (out.new.items ≡ out.old.items ++ set_bytes set) }
+    ensures bytes { OnOk result (out.new.items ≡ out.old.items ++ set_bytes set) }
+    ensures short { OnOk result (IsSizedSet set) }
 {
     put_byte(out, set_place(set))?;
     match set {
@@ -107,7 +110,8 @@ fn put_set(out: &mut Vec<u8>, set: SetName) -> Result<(), Memory>
 }
 
 fn put_part(out: &mut Vec<u8>, part: &Part) -> Result<(), Memory>
-    ensures { OnOk result (out.new.items ≡ out.old.items ++ part_bytes part.now) }
+    ensures bytes { OnOk result (out.new.items ≡ out.old.items ++ part_bytes part.now) }
+    ensures short { OnOk result (IsSizedPart part.now) }
 {
     match *part {
         Part::Range { from, to } => {
@@ -125,7 +129,8 @@ fn put_part(out: &mut Vec<u8>, part: &Part) -> Result<(), Memory>
 
 fn put_parts(out: &mut Vec<u8>, parts: &[Part]) -> Result<(), Memory>
     requires { length parts.now ≤ 4294967295 }
-    ensures { OnOk result (out.new.items ≡ out.old.items ++ counted part_bytes parts.now) }
+    ensures bytes { OnOk result (out.new.items ≡ out.old.items ++ counted part_bytes parts.now) }
+    ensures short { OnOk result (All IsSizedPart parts.now) }
 {
     put_number(out, parts.len() as u32)?;
     for part in parts {
@@ -136,7 +141,8 @@ fn put_parts(out: &mut Vec<u8>, parts: &[Part]) -> Result<(), Memory>
 
 fn put_class(out: &mut Vec<u8>, spec: &ClassSpec) -> Result<(), Memory>
     requires { length spec.now.parts ≤ 4294967295 }
-    ensures { OnOk result (out.new.items ≡ out.old.items ++ class_bytes spec.now) }
+    ensures bytes { OnOk result (out.new.items ≡ out.old.items ++ class_bytes spec.now) }
+    ensures short { OnOk result (All IsSizedPart spec.now.parts) }
 {
     put_byte(out, two_bits(spec.negated, spec.caseless))?;
     put_parts(out, spec.parts.as_slice())
@@ -144,7 +150,9 @@ fn put_class(out: &mut Vec<u8>, spec: &ClassSpec) -> Result<(), Memory>
 
 fn put_classes(out: &mut Vec<u8>, tree: &Tree) -> Result<(), Memory>
     requires { All (λ spec. length spec.parts ≤ 4294967295) tree.now.classes }
-    ensures { OnOk result (out.new.items ≡ out.old.items ++ counted class_bytes tree.now.classes) }
+    ensures bytes { OnOk result
+        (out.new.items ≡ out.old.items ++ counted class_bytes tree.now.classes) }
+    ensures short { OnOk result (All (λ spec. All IsSizedPart spec.parts) tree.now.classes) }
 {
     let count = tree.classes();
     put_number(out, count)?;
@@ -169,7 +177,8 @@ fn put_verb_names(out: &mut Vec<u8>, tree: &Tree) -> Result<(), Memory>
 
 fn put_name(out: &mut Vec<u8>, entry: &NameEntry) -> Result<(), Memory>
     requires { length entry.now.name ≤ 255 }
-    ensures { OnOk result (out.new.items ≡ out.old.items ++ name_bytes entry.now) }
+    ensures bytes { OnOk result (out.new.items ≡ out.old.items ++ name_bytes entry.now) }
+    ensures short { OnOk result (entry.now.group < 2 ^ 16) }
 {
     put_number(out, u32::from(entry.group))?;
     put_short_text(out, entry.name.bytes())
@@ -178,7 +187,8 @@ fn put_name(out: &mut Vec<u8>, entry: &NameEntry) -> Result<(), Memory>
 fn put_names(out: &mut Vec<u8>, entries: &[NameEntry]) -> Result<(), Memory>
     requires few { length entries.now ≤ 4294967295 }
     requires short { All (λ entry. length entry.name ≤ 255) entries.now }
-    ensures { OnOk result (out.new.items ≡ out.old.items ++ counted name_bytes entries.now) }
+    ensures bytes { OnOk result (out.new.items ≡ out.old.items ++ counted name_bytes entries.now) }
+    ensures short { OnOk result (All (λ entry. entry.group < 2 ^ 16) entries.now) }
 {
     put_number(out, entries.len() as u32)?;
     for entry in entries {
@@ -193,7 +203,9 @@ pub(crate) fn put_tables(out: &mut Vec<u8>, tree: &Tree) -> Result<(), Memory>
     requires names { All (λ entry. length entry.name ≤ 255) tree.now.names }
     requires verb_names { All (λ name. length name ≤ 255) tree.now.verb_names }
     requires classes { All (λ spec. length spec.parts ≤ 4294967295) tree.now.classes }
-    ensures { OnOk result (out.new.items ≡ out.old.items ++ tables_bytes tree.now) }
+    ensures bytes { OnOk result (out.new.items ≡ out.old.items ++ tables_bytes tree.now) }
+    ensures names { OnOk result (All (λ entry. entry.group < 2 ^ 16) tree.now.names) }
+    ensures classes { OnOk result (All (λ spec. All IsSizedPart spec.parts) tree.now.classes) }
 {
     put_names(out, tree.names().entries())?;
     put_verb_names(out, tree)?;

@@ -11,8 +11,8 @@ use Rattle.pat_tree.specs.Nested.{Nested, Row}
 use Rattle.match_items.specs.Items.{after_item, item_reaches}
 use Rattle.pat_bounds.specs.declared.bounds.Bound.{Bound}
 use Rattle.pat_bounds.specs.Bounds.{offered, turns, followed, closed, grouped, both, change, or_so, first_item}
-use Rattle.pat_bounds.specs.Bounds.{is_alone, repeated, in_turns, is_left_once, at, left_once, next_char, lacks}
-use Rattle.pat_bounds.specs.Bounds.{is_apart, bound, bound_before, bound_in_turn, bound_of_one, bound_of_choices}
+use Rattle.pat_bounds.specs.Bounds.{is_alone, repeated, in_turns, branching, is_left_once, at, left_once, next_char}
+use Rattle.pat_bounds.specs.Bounds.{lacks, is_apart, bound, bound_before, bound_in_turn, bound_of_one, bound_of_choices}
 use Rattle.ordered_search.specs.Stream.{State, by_halt, cut, reached, Stream, Search, nothing, each, and_then}
 use Rattle.ordered_search.specs.Setting.{Setting}
 use Rattle.ordered_search.specs.Tests.{goes_to, run_one, run_many}
@@ -25,7 +25,7 @@ use Rattle.search_needs.proofs.Bounded.{size, FitsIn, FitsSome, unreached, fits_
 use Rattle.search_needs.proofs.Bounded.{once_break, once_ref, once_anchor, fits_many, fits_followed, fits_or_else}
 use Rattle.search_needs.proofs.Bounded.{fits_group, fits_atomic, fits_look}
 use Rattle.search_needs.proofs.Growing.{at_steady}
-use Rattle.search_needs.proofs.Repeated.{fits_repeat}
+use Rattle.search_needs.proofs.Repeated.{fits_repeat, fits_few}
 use Rattle.search_needs.proofs.Alone.{LeftAlone, fits_or_apart, left_alone}
 use Rattle.search_needs.proofs.Apart.{fits_apart}
 
@@ -175,11 +175,15 @@ module _ (g : Setting) (off : g.matching.«partial» ≡ Off) where
           ∙ at_steady a.states.times (size g off) in
           omega (arith, is, few)
 
+      by_high : (h : Option ℕ) → FitsSome g off (branching low h a) (run g (suc d) (tree.repeat body low h lazily))
+      by_high None = tt
+      by_high (Some h) = fits_few g off body a at_depth (suc d) low h lazily
+
       by_once : (b : Bool) → is_left_once a ≡ b
-          → FitsSome g off (if b then Some (in_turns low high a) else None)
+          → FitsSome g off (if b then Some (in_turns low high a) else branching low high a)
           (run g (suc d) (tree.repeat body low high lazily))
       by_once true e = fits_repeat g off (suc d) body low high lazily a (left e) at_depth
-      by_once false e = tt
+      by_once false e = by_high high
 
   mutual
     unfolding bound level in_order branches choices

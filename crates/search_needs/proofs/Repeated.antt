@@ -1,5 +1,5 @@
--- Repeats of a group that is left once at most: how many turns there are, by the places at which
--- they begin.
+-- Repeats of a group that is left once at most: how many turns there are, by the places at which they begin. Of a group
+-- that is left more often: how much so many turns take.
 use Rattle.std.proofs.Common.{◌≡◌, ◌∙◌, ℕ, zero, suc, ◌+◌, ◌-◌, ◌*◌, ◌<◌, ◌≤◌, Bool, true, false, length, max}
 use Rattle.std.proofs.Common.{Option, Some, None, inl, inr, refl, sym, ap, subst, arith}
 use Rattle.std.specs.Prelude.{◌==◌, ◌&&◌, ◌||◌, nat_le, nat_lt}
@@ -11,14 +11,14 @@ use Rattle.pat_tree.specs.Nested.{Nested, repeat}
 use Rattle.match_items.specs.Items.{one_less}
 use Rattle.pat_bounds.specs.declared.bounds.Growth.{Growth}
 use Rattle.pat_bounds.specs.declared.bounds.Bound.{Bound}
-use Rattle.pat_bounds.specs.Bounds.{at, steady, plus, product, line, group_turns, group_ends, in_turns}
+use Rattle.pat_bounds.specs.Bounds.{at, steady, plus, product, line, group_turns, group_ends, in_turns, few_turns}
 use Rattle.ordered_search.specs.Stream.{State, cut, by_halt, How, reached, note, state, step, Stream, Search, ends}
 use Rattle.ordered_search.specs.Stream.{◌▸◌, nothing, gives, ◌or_else◌, each, go_on, and_then}
 use Rattle.ordered_search.specs.Setting.{Setting, hold}
 use Rattle.ordered_search.specs.Parts.{Searches, is_over, turn, run_repeat}
 use Rattle.ordered_search.specs.Run.{level, run}
 use Rattle.search_needs.proofs.TameStreams.{Within, within_more, within_nothing, within_gives, within_end}
-use Rattle.search_needs.proofs.TameStreams.{within_step, within_or_else, within_each}
+use Rattle.search_needs.proofs.TameStreams.{within_step, within_or_else, within_each, within_and_then}
 use Rattle.search_needs.proofs.Growing.{at_steady, at_line, at_plus, at_product}
 use Rattle.search_needs.proofs.Onward.{Near, Onward, GoesOn, onward_ends, onward_gives, onward_step, onward_if}
 use Rattle.search_needs.proofs.Onward.{onward_or_else, onward_and_then, onward_held, onward_hold}
@@ -187,8 +187,72 @@ module _ (g : Setting) (off : g.matching.«partial» ≡ Off) (body : Nested) (p
   repeat_fits (suc d) (suc n) zero (Some (suc high)) false s h room =
       or_left_here n s _ (turned d n zero (Some (suc high)) false s h room (repeat_fits d))
 
-  -- Its states go on.
+-- The body is left r times at most, with i Steps and u units more: so may each turn be, and the repeat before each.
+module _ (g : Setting) (off : g.matching.«partial» ≡ Off) (body : Nested) (i r u : ℕ)
+    (fits : (d : ℕ) → Fits g off i r u (run g d body)) where
+  -- so many Steps, states and units n turns take
+  abbrev steps_in : ℕ → ℕ
+  steps_in zero = 0
+  steps_in (suc n) = 1 + (i + r * steps_in n)
 
+  abbrev states_in : ℕ → ℕ
+  states_in zero = 1
+  states_in (suc n) = 1 + r * states_in n
+
+  abbrev units_in : ℕ → ℕ
+  units_in zero = 0
+  units_in (suc n) = 1 + (u + units_in n)
+
+  some_state : (n : ℕ) → 1 ≤ states_in n
+  some_state zero = omega arith
+  some_state (suc n) = omega arith
+
+  -- with so much depth
+  abbrev FewFit : ℕ → Type 0
+  FewFit d = (n low high : ℕ) (lazily : Bool) (s : State) → low ≤ n → high ≤ n
+      → s.units + units_in n ≤ g.matching.frame_limit
+      → Within (steps_in n) (states_in n) (s.units + units_in n) (run g d (repeat body low (Some high) lazily) s)
+
+  few_turned : (d n low high : ℕ) (lazily : Bool) (s : State) → low - 1 ≤ n → high - 1 ≤ n
+      → s.units + units_in (suc n) ≤ g.matching.frame_limit → FewFit d
+      → Within (steps_in (suc n)) (r * states_in n) (s.units + units_in (suc n))
+      (turn g (run g d) body low (Some high) lazily s)
+  unfolding turn
+  few_turned d n low high lazily s a b room rest =
+      let t : State = record s { units = s.units + 1 } in
+      within_step (i + r * steps_in n) (r * states_in n) _ _
+      (held_within g off _ _ (s.units + units_in (suc n)) 1 s _ (omega (arith, room))
+      (within_and_then i r (t.units + u) (steps_in n) (states_in n) (s.units + units_in (suc n)) (run g d body t) _
+      (fits d t (omega (arith, room)))
+      (λ t few. within_more _ _ (t.units + units_in n) _ _ _ _ (omega arith) (omega arith) (omega (arith, few))
+      (rest n (low - 1) (high - 1) lazily t a b (omega (arith, few, room))))))
+
+  few_fits : (d : ℕ) → FewFit d
+  unfolding run level run_repeat
+  few_fits zero n low high lazily s a b room = within_end _ _ _ (by_halt cut) tt
+  few_fits (suc d) n zero zero lazily s a b room =
+      let some = some_state n in
+      within_more 0 1 s.units _ _ _ _ (omega arith) (omega (arith, some)) (omega arith)
+      (within_gives 0 s.units s (omega arith))
+  few_fits (suc d) zero (suc low) high lazily s a b room = absurd (omega (arith, a))
+  few_fits (suc d) zero zero (suc high) lazily s a b room = absurd (omega (arith, b))
+  few_fits (suc d) (suc n) (suc low) high lazily s a b room =
+      within_more _ _ _ _ _ _ _ (omega arith) (omega arith) (omega arith)
+      (few_turned d n (suc low) high lazily s (omega (arith, a)) (omega (arith, b)) room (few_fits d))
+  few_fits (suc d) (suc n) zero (suc high) true s a b room =
+      within_more _ _ (s.units + units_in (suc n)) _ _ _ _ (omega arith) (omega arith) (omega arith)
+      (within_or_else 0 1 (steps_in (suc n)) (r * states_in n) (s.units + units_in (suc n)) (hold g reached s) _
+      (within_more 0 1 (s.units + 1) _ _ _ _ (omega arith) (omega arith) (omega arith)
+      (fits_hold g off s (omega (arith, room))))
+      (few_turned d n zero (suc high) true s (omega arith) (omega (arith, b)) room (few_fits d)))
+  few_fits (suc d) (suc n) zero (suc high) false s a b room =
+      within_more _ _ (s.units + units_in (suc n)) _ _ _ _ (omega arith) (omega arith) (omega arith)
+      (within_or_else (steps_in (suc n)) (r * states_in n) 0 1 (s.units + units_in (suc n)) _ (gives reached s)
+      (few_turned d n zero (suc high) false s (omega arith) (omega (arith, b)) room (few_fits d))
+      (within_gives 0 _ s (omega arith)))
+
+-- Where the body's states go on, those of its repeat do.
+module _ (g : Setting) (body : Nested) (goes : (d : ℕ) → GoesOn g (run g d body)) where
   turn_goes : (below : Searches) (low : ℕ) (high : Option ℕ) (lazily : Bool) → GoesOn g (below body)
       → GoesOn g (below (repeat body (low - 1) (one_less high) lazily))
       → GoesOn g (turn g below body low high lazily)
@@ -264,7 +328,7 @@ module _ (g : Setting) (off : g.matching.«partial» ≡ Off) where
       → ((d : ℕ) → FitsIn g off a (run g d body))
       → FitsIn g off (in_turns low high a) (run g d (repeat body low high lazily))
   fits_repeat d body low high lazily a once fits =
-      (few, repeat_goes g off body p v i u steps units body_few (λ d. (fits d).1) d low high lazily)
+      (few, repeat_goes g body (λ d. (fits d).1) d low high lazily)
     where
       n : ℕ
       n = size g off
@@ -307,3 +371,66 @@ module _ (g : Setting) (off : g.matching.«partial» ≡ Off) where
           within_more _ _ (s.units + many low high * v) _ _ _ _ b (ends_told low high) (omega (arith, c))
           (repeat_fits g off body p v i u steps units body_few (λ d. (fits d).1) d (many low high) low high lazily s
           (enough s.place) (omega (arith, c, le)))
+
+  -- The numbers of few turns of a.
+  module _ (body : Nested) (a : Bound) (fits : (d : ℕ) → FitsIn g off a (run g d body)) where
+    abbrev n : ℕ
+    n = size g off
+
+    abbrev body_few : (d : ℕ) → Fits g off (at a.steps n) (at a.states n) (at a.units n) (run g d body)
+    body_few d = (fits d).0
+
+    abbrev steps_of : ℕ → ℕ
+    steps_of = steps_in g off body (at a.steps n) (at a.states n) (at a.units n) body_few
+
+    abbrev states_of : ℕ → ℕ
+    states_of = states_in g off body (at a.steps n) (at a.states n) (at a.units n) body_few
+
+    abbrev units_of : ℕ → ℕ
+    units_of = units_in g off body (at a.steps n) (at a.states n) (at a.units n) body_few
+
+    steps_told : (k : ℕ) → steps_of k ≤ at (few_turns k a).steps n
+    steps_told zero = let e = at_steady 0 n in omega (arith, e)
+    steps_told (suc k) =
+        let b = few_turns k a in
+        let one = at_steady 1 n in
+        let own = at_plus (steady 1) a.steps n (omega arith) in
+        let all = at_plus (plus (steady 1) a.steps) (product a.states b.steps) n (omega arith) in
+        let e = at_product a.states b.steps n in
+        let more = mul-le (at a.states n) (steps_of k) (at a.states n) (at b.steps n) (omega arith) (steps_told k) in
+        omega (arith, one, own, all, e, more)
+
+    states_told : (k : ℕ) → states_of k ≤ at (few_turns k a).states n
+    states_told zero = let e = at_steady 1 n in omega (arith, e)
+    states_told (suc k) =
+        let b = few_turns k a in
+        let one = at_steady 1 n in
+        let all = at_plus (steady 1) (product a.states b.states) n (omega arith) in
+        let e = at_product a.states b.states n in
+        let more = mul-le (at a.states n) (states_of k) (at a.states n) (at b.states n) (omega arith) (states_told k) in
+        omega (arith, one, all, e, more)
+
+    units_told : (k : ℕ) → units_of k ≤ at (few_turns k a).units n
+    units_told zero = let e = at_steady 0 n in omega (arith, e)
+    units_told (suc k) =
+        let b = few_turns k a in
+        let one = at_steady 1 n in
+        let own = at_plus (steady 1) a.units n (omega arith) in
+        let all = at_plus (plus (steady 1) a.units) b.units n (omega arith) in
+        let before = units_told k in
+        omega (arith, one, own, all, before)
+
+    pub fits_few : (d low high : ℕ) (lazily : Bool)
+        → FitsIn g off (few_turns (max low high) a) (run g d (repeat body low (Some high) lazily))
+    fits_few d low high lazily = (few, repeat_goes g body (λ d. (fits d).1) d low (Some high) lazily)
+      where
+        k : ℕ
+        k = max low high
+
+        few : Fits g off (at (few_turns k a).steps n) (at (few_turns k a).states n) (at (few_turns k a).units n)
+            (run g d (repeat body low (Some high) lazily))
+        few s le =
+            let more = units_told k in
+            within_more _ _ (s.units + units_of k) _ _ _ _ (steps_told k) (states_told k) (omega (arith, more))
+            (few_fits g off body (at a.steps n) (at a.states n) (at a.units n) body_few d k low high lazily s
+            (omega arith) (omega arith) (omega (arith, more, le)))

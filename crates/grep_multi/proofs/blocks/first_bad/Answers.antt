@@ -1,8 +1,15 @@
-use Rattle.std.proofs.Common.{◌∙◌, sym, ap, Some}
-use Rattle.std.proofs.lemmas.Str.{is_utf8-from_IsUtf8}
-use Rattle.pcre2_api.proofs.Starting.{not-text}
+use Rattle.std.proofs.Common.{◌≡◌, ◌∙◌, ℕ, List, false, inl, inr, sym, ap, Some}
+use Rattle.std.specs.Str.{IsUtf8, is_utf8}
+use Rattle.std.proofs.lemmas.Bool.{cases_Bool}
+use Rattle.std.proofs.lemmas.Str.{IsUtf8-from_is_utf8, is_utf8-from_IsUtf8}
 use Rattle.grep_multi.proofs.Stepping.{bad-text, bad-some}
 use Rattle.grep_multi.proofs.blocks.first_bad.Goals as goal
+
+not-text : (bytes : List ℕ) → (IsUtf8 bytes → ⊥) → is_utf8 bytes ≡ false
+not-text bytes refused = elim (cases_Bool (is_utf8 bytes)) [
+  | inl on ↦ absurd (refused (IsUtf8-from_is_utf8 bytes on))
+  | inr off ↦ off
+]
 
 pub returns-in-Ok : goal.returns-in-Ok
 returns-in-Ok c =

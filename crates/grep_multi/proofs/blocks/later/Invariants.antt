@@ -1,4 +1,4 @@
-use Rattle.std.proofs.Common.{◌≡◌, ◌+◌, ◌≤◌, ◌∷◌, [], length, IfSome}
+use Rattle.std.proofs.Common.{◌≡◌, ◌≤◌, ◌∷◌, [], length, IfSome}
 use Rattle.std.specs.Str.{is_utf8}
 use Rattle.ordered_search.specs.PlaceAnswer.{Outcome}
 use Rattle.line_feed.specs.Rows.{Row}

@@ -1,4 +1,4 @@
-use Rattle.std.proofs.Common.{◌+◌, ◌≤◌, length, arith}
+use Rattle.std.proofs.Common.{arith}
 use Rattle.grep_multi.proofs.Cutting.{extends-done, extends-more}
 use Rattle.grep_multi.proofs.cut.extend.Goals as goal
 

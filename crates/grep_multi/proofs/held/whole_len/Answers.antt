@@ -1,5 +1,5 @@
-use Rattle.std.proofs.Common.{◌≡◌, ◌∙◌, true, ◌+◌, ◌<◌, ◌≤◌, length, drop, sym, ap, subst, arith, rules}
-use Rattle.line_feed.specs.Rows.{Fault, first_newline, has_no_row}
+use Rattle.std.proofs.Common.{◌≡◌, ◌∙◌, true, ◌+◌, ◌≤◌, length, sym, subst, arith, rules}
+use Rattle.line_feed.specs.Rows.{Fault, has_no_row}
 use Rattle.grep_multi.proofs.Holding.{passed-none, passed-next, passed-shorter, passed-stops, passed-within, room}
 use Rattle.grep_multi.proofs.held.whole_len.Goals as goal
 

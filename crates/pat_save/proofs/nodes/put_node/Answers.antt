@@ -3,8 +3,8 @@ use Rattle.pat_save.specs.Fields.{four_bytes}
 use Rattle.pat_save.proofs.Steps.{written_as_one}
 use Rattle.pat_save.proofs.nodes.put_node.Goals as goal
 
-pub returns-in-Callout : goal.returns-in-Callout
-returns-in-Callout c =
+pub returns-in-Callout-clause-bytes : goal.returns-in-Callout-clause-bytes
+returns-in-Callout-clause-bytes c =
     let w = c.in-Callout in
     rw w.is (
     written_as_one

@@ -1,8 +1,6 @@
-use Rattle.std.proofs.Common.{◌≡◌, ◌+◌, ◌∷◌, ◌++◌, [], length, sym, ap, ◌∙◌, arith, below_more, length-append}
-use Rattle.pat_tree.specs.declared.options.Options.{Options}
-use Rattle.char_sets.specs.Sets.{takes}
+use Rattle.std.proofs.Common.{◌≡◌, ◌+◌, ◌∷◌, ◌++◌, [], length, ap, ◌∙◌, arith, below_more, length-append}
 use Rattle.char_sets.specs.Table.{table_has}
-use Rattle.char_sets.proofs.TableLemmas.{table_has-before, table_has-newest, class_has-found, IsTableOf-whole}
+use Rattle.char_sets.proofs.TableLemmas.{table_has-before, table_has-newest, IsTableOf-whole}
 use Rattle.char_sets.proofs.table.ClassTable.build.Goals as goal
 
 pub loop-id-preserved : goal.loop-id-preserved
@@ -10,7 +8,6 @@ loop-id-preserved c =
     let old = c.loop-id.entries.items in
     let entry = c.in_ok-entry.entry in
     let id = c.loop-id.id in
-    let tree = c.args.tree.now in
     let count : length old ≡ id = c.loop-id.invariant.count in
     let items : c.push.new.self.items ≡ old ++ entry ∷ [] = c.in_ok-push.ensures.items in
     record {
@@ -18,9 +15,9 @@ loop-id-preserved c =
       classes = below_more _ _
           (λ k l x. ap (λ t. table_has t k x) items ∙ table_has-before old entry k x (omega arith)
           ∙ c.loop-id.invariant.classes k l x)
-          (λ x. ap (λ t. table_has t id x) items ∙ table_has-newest old entry id x count ∙ c.in_ok-entry.ensures x
-          ∙ ap (λ utf. takes utf c.class.result.now x) (ap (λ (o : Options). o.utf) c.options.ensures)
-          ∙ sym (class_has-found tree id x c.class.result.now c.class.ensures));
+          (λ x. ap (λ t. table_has t id x) items ∙ table_has-newest old entry id x count
+          ∙ c.in_ok-entry.ensures
+          (λ k l y. ap (λ t. table_has t k y) c.deref.ensures.value ∙ c.loop-id.invariant.classes k l y) x);
     }
 
 pub returns : goal.returns
