@@ -404,7 +404,7 @@ fn patterns_are_refused_at_their_faults(rt: HostRuntime) -> Result<(), Fail> {
 fn lookbehinds_are_refused_at_their_parentheses(rt: HostRuntime) -> Result<(), Fail> {
     static ROWS: [Refusal; 19] = [
         (b"(?<=(?1))(a+)", 125, 0),
-        (b"a(?<!(?1))b(c|dd)", 125, 1),
+        (b"a(?<!(?1))b(c|d+)", 125, 1),
         (b"(a)(?1)\\1(?<=b+)c", 125, 9),
         (b"(?<=a+)b", 125, 0),
         (b"(?<=ab|c*)d", 125, 0),
@@ -499,9 +499,20 @@ fn a_first_byte_is_told(rt: HostRuntime) -> Result<(), Fail> {
 }
 
 #[test]
-fn branches_of_a_lookbehind_may_differ(rt: HostRuntime) -> Result<(), Fail> {
-    let code = Code::compile(rt.alloc(), b"(?<=ab|c)d", Options::PLAIN)?;
-    assert!(&rt; code.info().max_lookbehind == 2);
+fn the_greatest_branch_of_a_lookbehind_is_told(rt: HostRuntime) -> Result<(), Fail> {
+    static ROWS: [(&'static [u8], u32); 7] = [
+        (b"(?<=ab|c)d", 2),
+        (b"(?<=a{1,3}|b)(?<!c?)d", 3),
+        (b"(?<=a?)b(?<=\\R)", 2),
+        (b"(?<=(?<!a{2,255})b)c", 255),
+        (b"(?<=(?1))b(c|dd)", 2),
+        (b"(?<=a{0})b", 0),
+        (b"\\b(?<=a{0})b", 1),
+    ];
+    for (pattern, most) in &ROWS {
+        let code = Code::compile(rt.alloc(), pattern, Options::PLAIN)?;
+        assert!(&rt; code.info().max_lookbehind == *most);
+    }
     Ok(())
 }
 
