@@ -56,10 +56,18 @@ struct Part<'a> {
     watch: Watch,
     filter: Option<Filter<'a>>,
     until: u64,
+    /// How many lines were taken one by one.
+    taken: u64,
 }
 
 // So many lines are taken before a filter is made, since that takes as long as the scan of some: most files have fewer.
 const LATE: u64 = 2_000;
+
+// So many where few of these were taken one by one.
+const LATER: u64 = 32_000;
+
+// So many where each line is searched.
+const EARLY: u64 = 256;
 
 // However many patterns there are, at least so many lines are.
 const SOON: u64 = 64;
@@ -209,7 +217,7 @@ fn follow<S: Source, O: Sink>(
     Ok(Ended::Early)
 }
 
-// Looks for the first line that may have a match, where there is a filter.
+// Looks for the first line that may have a match, where there is a filter, before a line is taken by itself.
 fn sift(part: &mut Part<'_>, feed: &LineFeed)
     ensures watch { (plan : GrepPlan) (patterns : List Pattern)
         → IfSome part.old.filter (Filters plan patterns)
@@ -220,6 +228,7 @@ fn sift(part: &mut Part<'_>, feed: &LineFeed)
         → IfSome part.new.filter (Filters plan patterns) }
     ensures until { part.new.until ≡ part.old.until }
 {
+    part.taken = part.taken.saturating_add(1);
     if let Some(filter) = &mut part.filter {
         filter.look(&mut part.watch, feed);
     }
@@ -320,6 +329,7 @@ fn take_rest<S: Source, O: Sink, E: Sink>(
         watch,
         filter,
         until: u64::MAX,
+        taken: 0,
     };
     match take_until(job, scanner, source, out, err, course, &mut part)? {
         Came::Done(ended) => Ok(ended),
@@ -327,13 +337,57 @@ fn take_rest<S: Source, O: Sink, E: Sink>(
     }
 }
 
-// How many lines are taken before a filter is made: fewer where each line is searched for many patterns.
+// Takes the lines behind the first ones, up to some line without a filter.
+fn take_more<S: Source, O: Sink, E: Sink>(
+    job: &Job<'_>,
+    scanner: &mut Scanner,
+    source: &mut S,
+    out: &mut O,
+    err: &mut E,
+    course: &mut Course,
+    watch: Watch,
+    until: u64,
+) -> Result<Option<Ended>, Stop>
+    requires { IsReady job.now scanner.old.feed course.old scanner.old.state watch }
+    ensures live { result ≡ Ok None → scanner.new.feed.phase ≢ Closed }
+    ensures taken { (from : Origin) → IsJob job.now.plan.now from.treated job.now.show
+        job.now.most from.feed
+        → StandsAt (work_of job.now) job.now.most from
+        (position (fed scanner.old.feed (S.tells source.old))
+        (progress course.old scanner.old.state (printed (O.tells out.old) (E.tells err.old))))
+        → TakesAll (work_of job.now) job.now.most from.treated (began_at from)
+        (position (fed scanner.new.feed (S.tells source.new))
+        (progress course.new scanner.new.state (printed (O.tells out.new) (E.tells err.new))))
+        result }
+{
+    let mut part = Part {
+        watch,
+        filter: None,
+        until,
+        taken: 0,
+    };
+    match take_until(job, scanner, source, out, err, course, &mut part)? {
+        Came::Done(ended) => Ok(ended),
+        Came::Far => take_rest(job, scanner, source, out, err, course, part.watch),
+    }
+}
+
+// How many lines are taken before a filter is made: fewer where each line is searched, for many patterns above all.
 fn late(watch: &Watch, patterns: &Patterns) -> u64 {
     if watch.needed.is_some() {
         return LATE;
     }
     let many = patterns.len() as u64;
-    (LATE / many.max(1)).max(SOON)
+    (EARLY / many.max(1)).max(SOON)
+}
+
+// Up to which line no filter is made yet, by the first ones.
+fn later(part: &Part<'_>) -> u64 {
+    if part.taken < part.until / 4 {
+        LATER
+    } else {
+        part.until
+    }
 }
 
 // What the lines of an input are begun by: a filter that is at hand, or the first of them without any.
@@ -347,6 +401,7 @@ fn first_part<'a>(job: &Job<'_>, filter: Option<Filter<'a>>) -> Part<'a>
             watch: Watch::blank(),
             filter,
             until: u64::MAX,
+            taken: 0,
         };
     }
     let watch = Watch::new(job.plan, job.patterns);
@@ -355,6 +410,7 @@ fn first_part<'a>(job: &Job<'_>, filter: Option<Filter<'a>>) -> Part<'a>
         watch,
         filter,
         until,
+        taken: 0,
     }
 }
 
@@ -394,10 +450,11 @@ fn take_lines<S: Source, O: Sink, E: Sink>(
 {
     let mut part = first_part(job, filter.take());
     let came = take_until(job, scanner, source, out, err, course, &mut part)?;
+    let until = later(&part);
     *filter = part.filter;
     match came {
         Came::Done(ended) => Ok(ended),
-        Came::Far => take_rest(job, scanner, source, out, err, course, part.watch),
+        Came::Far => take_more(job, scanner, source, out, err, course, part.watch, until),
     }
 }
 

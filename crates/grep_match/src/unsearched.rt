@@ -10,7 +10,7 @@ use grep_args::GrepPlan;
 use pcre2_api::{ByteText, MatchOptions};
 
 // Longer lines than the first of these that serves are searched: some patterns pass no limit on short lines alone.
-const LENGTHS: [u32; 3] = [65_535, 2_047, 127];
+const LENGTHS: [u32; 5] = [65_535, 2_047, 511, 127, 63];
 
 // Of more patterns some text stands in nearly every line.
 const MANY: usize = 16;

@@ -15,7 +15,7 @@ use regex_hir::Hir;
 use std::alloc::Global;
 
 // Longer lines than the first of these that serves are searched: some patterns pass no limit on short lines alone.
-const LENGTHS: [u32; 3] = [65_535, 2_047, 127];
+const LENGTHS: [u32; 5] = [65_535, 2_047, 511, 127, 63];
 
 // The alternation of more is too large for a search.
 const MOST: usize = 16_384;

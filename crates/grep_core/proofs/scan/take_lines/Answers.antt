@@ -88,4 +88,4 @@ returns-in-Far-clause-taken g c = λ before treated job stood.
     let stands = rw c.in-Far.is at (c.in_ok-came.ensures.taken from job
     (standing-begun _ _ treated _ before _ _ _ _ _ job stood c.requires.selected c.requires.context c.requires.earlier
     c.requires.errors)) in
-    c.take_rest.ensures.taken from job stands
+    c.take_more.ensures.taken from job stands
