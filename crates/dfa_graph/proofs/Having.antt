@@ -205,7 +205,7 @@ refused_large t s n e k m l =
     refusal_is t support.Yes true (has_graph t) (sym e ∙ k)
     (is_over (size t) (nat_lt 65536 (size t)) refl (omega (arith, m, l))) refl
 
-size_is : (w n : ℕ) → n ≡ counted w → n ≤ 65536 → w ≤ 65536
+pub size_is : (w n : ℕ) → n ≡ counted w → n ≤ 65536 → w ≤ 65536
 size_is w n e l = omega (arith, e, l)
 
 unbuilt : (t : Nested) (b : Bool) → has_graph t ≡ b → (has_graph t ≡ true → ⊥) → b ≡ false

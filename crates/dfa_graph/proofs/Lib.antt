@@ -8,3 +8,4 @@ pub mod Costs
 pub mod Takers
 pub mod Plain
 pub mod Having
+pub mod Shallow

@@ -1,8 +1,9 @@
 //! The graph of a tree.
-ghost use Rattle.std.specs.Prelude.{◌≡◌, ◌||◌, None, IfOk, IfErr, length};
+ghost use Rattle.std.specs.Prelude.{◌≡◌, ◌||◌, ◌<◌, ◌≤◌, Err, None, IfOk, IfErr, length};
 ghost use Rattle.dfa_paths.specs.Fragment.{IsGraphOf};
 ghost use Rattle.dfa_graph.specs.Building.{tree_of};
 ghost use Rattle.dfa_graph.specs.Served.{refusal, IsRefused};
+ghost use Rattle.pat_grammar.specs.Nesting.{nesting};
 ghost use Rattle.pat_lengths.specs.Backs.{AreBacks, first_fault};
 ghost use Rattle.pat_lengths.specs.Nodes.{has_lookbehind};
 ghost use Rattle.pat_lengths.specs.Lengths.{can_be_empty};
@@ -80,6 +81,9 @@ impl Graph {
             (tree_of tree.now.nodes tree.now.root)) }
         ensures served { IfOk result (λ _. refusal (tree_of tree.now.nodes tree.now.root) ≡ None) }
         ensures refused { IfErr result (IsRefused (tree_of tree.now.nodes tree.now.root)) }
+        ensures large { result ≡ Err GraphError.TooLarge
+            → nesting (tree_of tree.now.nodes tree.now.root) ≤ 512
+            → 65536 < size (tree_of tree.now.nodes tree.now.root) }
     {
         match facts.dfa {
             DfaSupport::Item => return Err(GraphError::Item),

@@ -14,7 +14,6 @@ pub mod Replacing
 pub mod Rewriting
 pub mod SubstitutionRows
 pub mod DfaMatching
-pub mod Graphs
 pub mod Needing
 pub mod Shaping
 mod LendingSteps

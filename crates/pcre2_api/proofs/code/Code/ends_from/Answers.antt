@@ -12,9 +12,7 @@ use Rattle.pcre2_api.specs.DfaMatched.{IsDfaError}
 use Rattle.dfa_drive.proofs.Agreeing.{agree_from}
 use Rattle.pcre2_api.proofs.Starting.{begun-text, begun-place}
 use Rattle.dfa_drive.specs.dfa_graph.declared.making.GraphError.TheVariants.{TooLarge}
-use Rattle.dfa_drive.specs.dfa_graph.Served.{IsRefused}
 use Rattle.pcre2_api.proofs.DfaMatching.{barred, answered, is_large}
-use Rattle.pcre2_api.proofs.Graphs.{too_large}
 use Rattle.pcre2_api.proofs.code.Code.ends_from.Goals as goal
 
 err_is : {A B : Type 0} {a b : B} → (let r : Result A B = Err a in r) ≡ Err b → a ≡ b
@@ -32,11 +30,9 @@ pub returns-in_err-graph-clause-large : goal.returns-in_err-graph-clause-large
 returns-in_err-graph-clause-large g c = λ is.
     let e = c.in_err-graph.field-0.0 in
     let same : c.from_residual.result ≡ Err (error_of e) = search rules in
-    let large : IsRefused (tree_of c.ready-ready.result.tree.now) TooLarge = subst
-    (IsRefused (tree_of c.ready-ready.result.tree.now)) (is_large e (err_is (sym same ∙ is)))
-    c.in_err-graph.ensures.refused in
+    let large : e ≡ TooLarge = is_large e (err_is (sym same ∙ is)) in
     subst (λ (t : TreeParts). 65536 < size (tree_of t)) c.ready-ready.ensures.tree
-    (too_large c.ready-ready.result.tree.now c.ready-ready.ensures.nested large)
+    (c.in_err-graph.ensures.large (ap (λ e. Err e) large) (omega (arith, c.ready-ready.ensures.nested)))
 
 pub dfa_search-requires-clause-ready : goal.dfa_search-requires-clause-ready
 dfa_search-requires-clause-ready g c =

@@ -1,8 +1,8 @@
--- A pattern that was read has a graph where all of it is supported and it isn't too large.
-use Rattle.std.proofs.Common.{◌≡◌, ℕ, zero, suc, ◌<◌, ◌≤◌, max, Bool, true, false, ◌&&◌, ◌||◌, nat_lt, List, []}
-use Rattle.std.proofs.Common.{◌∷◌, ◌++◌, map, Option, Some, None, refl, sym, ap, ◌∙◌, subst, arith}
+-- A tree whose atomic groups and lookarounds stand at most so deep in each other as the forms of a graph may has a graph
+-- where all of it is supported.
+use Rattle.std.proofs.Common.{◌≡◌, ℕ, zero, suc, ◌≤◌, Bool, true, false, ◌&&◌, ◌||◌, List, []}
+use Rattle.std.proofs.Common.{◌∷◌, ◌++◌, map, Option, Some, None, refl, ap, ◌∙◌, arith}
 use Rattle.std.specs.List.{AllByRecursion}
-use borrow.Author.Tests.{ltb-true}
 use Rattle.pat_tree.specs.declared.nodes.Node.{Node}
 use Rattle.pat_tree.specs.declared.nodes.Node.TheVariants as node
 use Rattle.pat_tree.specs.declared.nodes.Cond.{Cond}
@@ -10,19 +10,14 @@ use Rattle.pat_tree.specs.declared.nodes.Cond.TheVariants.{AnySet, InCall, InCal
 use Rattle.pat_tree.specs.declared.nodes.Placed.{Placed}
 use Rattle.pat_tree.specs.declared.nodes.Verb.{Verb}
 use Rattle.pat_tree.specs.declared.nodes.Verb.TheVariants.{Fail}
-use Rattle.pat_tree.specs.Nested.{Nested, Row, Test, Other, empty, look, seq, callout, none, more, row, tree_at}
+use Rattle.pat_tree.specs.Nested.{Nested, Row, look, seq, callout, none, more, row, tree_at}
 use Rattle.pat_tree.specs.Nested.{other_of, cond_of, test_of, nest, trees_after, trees}
-use Rattle.pat_tree.specs.Parts.{TreeParts, tree_of}
 use Rattle.pat_lengths.specs.Nodes.{nodes, nodes_in, nodes_of_test, nodes_of_other, all_nodes}
-use Rattle.pat_check.specs.Size.{size}
 use Rattle.pat_check.specs.Support.{node_support, test_support, or_later, support_of_all, dfa_support}
 use Rattle.pat_check.specs.declared.support.DfaSupport.{DfaSupport}
 use Rattle.pat_check.specs.declared.support.DfaSupport.TheVariants.{Yes, Item, Cond as OnGroup}
-use Rattle.pat_build.specs.pat_grammar.Nesting.{nesting, nesting_of_row, nesting_of_test, nesting_of_other}
-use Rattle.dfa_drive.specs.dfa_graph.declared.making.GraphError.{GraphError}
-use Rattle.dfa_drive.specs.dfa_graph.declared.making.GraphError.TheVariants.{TooLarge}
-use Rattle.dfa_drive.specs.dfa_graph.Served.{has_fragment, all_have, test_has, other_has, has_graph, refusal}
-use Rattle.dfa_drive.specs.dfa_graph.Served.{unless_built, unless_small, unless_supported}
+use Rattle.pat_grammar.specs.Nesting.{nesting, nesting_of_row, nesting_of_test, nesting_of_other}
+use Rattle.dfa_graph.specs.Served.{has_fragment, all_have, test_has, other_has}
 
 -- What is supported.
 
@@ -173,27 +168,5 @@ every_tree : (ps : List Placed) → AllByRecursion Has (trees ps)
 unfolding trees
 every_tree ps = all_after [] ps tt
 
-tree_has : (t : TreeParts) → Has (tree_of t)
-tree_has t = one_has [] tt (trees t.nodes) (every_tree t.nodes) t.root
-
--- So it is refused as too large for its nodes alone.
-
-large_by : (t : Nested) (s : DfaSupport) (over built : Bool) → nat_lt 65536 (size t) ≡ over → built ≡ true
-    → unless_supported s (unless_small over built) ≡ Some TooLarge → 65536 < size t
-large_by t Item over built is has h = absurd cc
-large_by t OnGroup over built is has h = absurd cc
-large_by t Yes true built is has h = ltb-true 65536 (size t) is
-large_by t Yes false true is has h = absurd cc
-large_by t Yes false false is has h = absurd cc
-
-supported : (s : DfaSupport) (r : Option GraphError) → unless_supported s r ≡ Some TooLarge → s ≡ Yes
-supported Yes r h = refl
-supported Item r h = absurd cc
-supported OnGroup r h = absurd cc
-
-pub too_large : (t : TreeParts) → nesting (tree_of t) ≤ 501 → refusal (tree_of t) ≡ Some TooLarge
-    → 65536 < size (tree_of t)
-too_large t shallow h =
-    let u = tree_of t in
-    let yes = supported (dfa_support u) (unless_small (nat_lt 65536 (size u)) (has_graph u)) h in
-    large_by u (dfa_support u) (nat_lt 65536 (size u)) (has_graph u) refl (tree_has t 512 (omega arith) yes) h
+pub shallow_has : (ps : List Placed) (root : ℕ) → Has (tree_at (trees ps) root)
+shallow_has ps root = one_has [] tt (trees ps) (every_tree ps) root
