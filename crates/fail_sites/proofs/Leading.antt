@@ -27,7 +27,8 @@ pub record Leads (g : Setting) (l : Left) (n p : ℕ) (f : Search) (s : State) :
 
 -- Whether a turn is over.
 
-pub over_is : (low : ℕ) (high : Option ℕ) (began s : State) → is_over low high began s ≡ over_at low high began.place s.place
+pub over_is : (low : ℕ) (high : Option ℕ) (began s : State)
+    → is_over low high began s ≡ over_at low high began.place s.place
 over_is low None began s = refl
 over_is low (Some n) began s = refl
 
@@ -87,7 +88,8 @@ row_of n p d deep (more t ts) plain hs = and_task (of_part deep plain.0) (row_of
 key_is : {n p : ℕ} {a : Task} {k : Key} (s : State) → s.place ≡ p → IsOfKey n p a k → key s a ≡ k
 key_is s at (of_part deep plain) = refl
 key_is s at (of_closing from) = refl
-key_is s at (of_turning {low = low} {body = body} {high = high} {lazily = lazily} {began = began} deep plain from over) =
+key_is s at (of_turning {low = low} {body = body} {high = high} {lazily = lazily} {began = began} deep plain from
+    over) =
     ap (turning_key body low high lazily)
     (over_is low high began s ∙ ap (over_at low high began.place) at ∙ over)
 

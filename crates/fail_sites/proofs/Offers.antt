@@ -1,16 +1,19 @@
 -- A greedy repeat of one item, and the places that it hands on.
-use Rattle.std.proofs.Common.{◌≡◌, ◌∙◌, ◌<◌, ◌≤◌, ℕ, zero, suc, ◌+◌, ◌-◌, Bool, true, false, List, [], ◌∷◌, length, drop}
+use Rattle.std.proofs.Common.{◌≡◌, ◌∙◌, ◌<◌, ◌≤◌, ℕ, zero, suc, ◌+◌, ◌-◌, Bool, true, false, List, [], ◌∷◌, length}
+use Rattle.std.proofs.Common.{drop}
 use Rattle.std.proofs.Common.{reverse, arith, refl, sym, ap, subst, Option, Some, None}
 use mathlib.Core.List.{reverse_aux}
 use Rattle.std.proofs.Math.Seq.{drop-nil}
 use Rattle.pat_tree.specs.declared.options.PartialMode.TheVariants.{Off}
 use Rattle.pat_tree.specs.declared.nodes.Item.{Item}
 use Rattle.pat_tree.specs.Nested as tree
-use Rattle.match_items.specs.Items.{is_none_left, one_less, after_item, run_places, longest_run, place_before, run_reaches}
+use Rattle.match_items.specs.Items.{is_none_left, one_less, after_item, run_places, longest_run, place_before}
+use Rattle.match_items.specs.Items.{run_reaches}
 use Rattle.match_items.specs.Subjects.{IsText, IsTextPlace}
 use Rattle.match_items.specs.Views.{end_of}
 use Rattle.match_items.proofs.TextGround.{places_stand}
-use Rattle.ordered_search.specs.Stream.{State, reached, step, Stream, Search, ◌▸◌, nothing, gives, ◌or_else◌, each, go_on}
+use Rattle.ordered_search.specs.Stream.{State, reached, step, Stream, Search, ◌▸◌, nothing, gives, ◌or_else◌, each}
+use Rattle.ordered_search.specs.Stream.{go_on}
 use Rattle.ordered_search.specs.Stream.{and_then}
 use Rattle.ordered_search.specs.Setting.{Setting, hold}
 use Rattle.ordered_search.specs.Tests.{move_to, offers, greedy, run_many}
@@ -23,7 +26,8 @@ use Rattle.fail_sites.specs.Graph as sites
 use Rattle.fail_sites.specs.Graph.{Graph, IsGraph, Fits, moved}
 use Rattle.fail_sites.specs.Stands.{AreOfKeys, and_task, of_part, IsSearchOf, of_todo, standing, Stands}
 use Rattle.fail_sites.specs.SiteLaws.{one_more, StandsAt}
-use Rattle.fail_sites.specs.Offers.{AreHandedOn, at_start, at_least, and_before, last_site, IsOffer, Repeats, Further, Last}
+use Rattle.fail_sites.specs.Offers.{AreHandedOn, at_start, at_least, and_before, last_site, IsOffer, Repeats, Further}
+use Rattle.fail_sites.specs.Offers.{Last}
 use Rattle.fail_sites.specs.Offers.{RepeatLaw, OfferLaw, LastLaw}
 use Rattle.fail_sites.specs.declared.op.Op.TheVariants as op
 use Rattle.fail_sites.proofs.Streams.{then_given, reach_off}
@@ -138,7 +142,8 @@ module _ (c : Graph) (is : IsGraph c) where
       → sites.Repeats item low high l l' l'' → IsSearchOf c.setting n p l f → ((u : ℕ) → x u ≡ f (standing p u s))
       → Repeats c item low high next' moved' n p x
   unfolding offers each
-  repeats item low high next' moved' n p s x e e' here sites.repeats (of_todo (and_task (of_part {d = zero} deep plain) hs))
+  repeats item low high next' moved' n p s x e e' here sites.repeats (of_todo (and_task
+      (of_part {d = zero} deep plain) hs))
       at = absurd (omega arith)
   repeats item low high next' moved' n p s x e e' here sites.repeats
       (of_todo (and_task {left = left} (of_part {d = suc d} deep plain) hs)) at = record {

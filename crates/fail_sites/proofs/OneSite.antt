@@ -1,6 +1,7 @@
 -- Sites from which the search goes on to one other.
 use mathlib.Core.Path.{fun_ext}
-use Rattle.std.proofs.Common.{◌≡◌, ◌∙◌, ◌<◌, ◌≤◌, ℕ, zero, suc, ◌+◌, ◌-◌, Bool, true, false, List, [], ◌∷◌, arith, refl, sym}
+use Rattle.std.proofs.Common.{◌≡◌, ◌∙◌, ◌<◌, ◌≤◌, ℕ, zero, suc, ◌+◌, ◌-◌, Bool, true, false, List, [], ◌∷◌, arith, refl}
+use Rattle.std.proofs.Common.{sym}
 use Rattle.std.proofs.Common.{ap, Option, Some, None}
 use Rattle.std.specs.Prelude.{nat_le}
 use Rattle.pat_tree.specs.declared.options.PartialMode.TheVariants.{Off}
@@ -26,7 +27,8 @@ use Rattle.fail_sites.specs.Stands.{over_at, AreOfKeys, and_task, of_part, of_cl
 use Rattle.fail_sites.specs.Stands.{of_choosing, of_turn, standing, turn_search}
 use Rattle.fail_sites.specs.SiteLaws.{one_more}
 use Rattle.fail_sites.proofs.Streams.{or_nothing, then_given, then_twice, each_then, caught, then_if, reach_off}
-use Rattle.fail_sites.proofs.Leading.{Leads, over_is, over_begun, fewer_of, moved_of, row_tasks, row_of, on_part, on_task}
+use Rattle.fail_sites.proofs.Leading.{Leads, over_is, over_begun, fewer_of, moved_of, row_tasks, row_of, on_part}
+use Rattle.fail_sites.proofs.Leading.{on_task}
 
 -- whether a turn is over, by the place where it began
 over_same : (low : ℕ) (high : Option ℕ) (p u : ℕ) (s v : State)
@@ -199,7 +201,8 @@ module _ (g : Setting) (off : g.matching.«partial» ≡ Off) (n p : ℕ) where
   abbrev pub turn_tasks : ℕ → Nested → ℕ → Option ℕ → Bool → List Task → State → List Task
   turn_tasks d body low high lazily left s = part d body ∷ turning d body low high lazily (standing p 0 s) ∷ left
 
-  pub turn_is : (d : ℕ) (body : Nested) (low : ℕ) (high : Option ℕ) (lazily : Bool) (left : List Task) (s : State) (u : ℕ)
+  pub turn_is : (d : ℕ) (body : Nested) (low : ℕ) (high : Option ℕ) (lazily : Bool) (left : List Task) (s : State)
+      (u : ℕ)
       → turn_search g d body low high lazily left (standing p u s)
       ≡ step ▸ one_more g (λ m. onward g (turn_tasks d body low high lazily left s) (standing p m s)) u
   unfolding turn each in_order task_search

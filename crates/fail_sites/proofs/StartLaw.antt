@@ -18,7 +18,8 @@ start_law c v p first here =
     let left = part (match_limit g + 1) g.whole ∷ [] in
     record {
       stream = λ u. onward g left (standing p u (first_state g.groups p));
-      stands = subst (λ (l : Left). Stands g l (match_limit g) p (λ u. onward g left (standing p u (first_state g.groups p))))
+      stands = subst (λ (l : Left). Stands g l (match_limit g) p (λ u. onward g left (standing p u
+          (first_state g.groups p))))
           (sym first.left)
           (record {
             here = here;

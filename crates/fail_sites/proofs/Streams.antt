@@ -3,7 +3,8 @@ use Rattle.std.proofs.Common.{◌≡◌, ◌∙◌, ℕ, Bool, true, false, refl
 use Rattle.pat_tree.specs.declared.options.PartialMode.{PartialMode}
 use Rattle.pat_tree.specs.declared.options.PartialMode.TheVariants.{Off, Soft, Hard}
 use Rattle.ordered_search.specs.Stream.{State, Ending, exhausted, by_verb, by_halt, is_partial, How, reached, accepted}
-use Rattle.ordered_search.specs.Stream.{hit_end, note, state, step, Stream, Search, ends, ◌▸◌, nothing, gives, ◌or_else◌}
+use Rattle.ordered_search.specs.Stream.{hit_end, note, state, step, Stream, Search, ends, ◌▸◌, nothing, gives}
+use Rattle.ordered_search.specs.Stream.{◌or_else◌}
 use Rattle.ordered_search.specs.Stream.{each, go_on, and_then, catch, is_next_branch}
 use Rattle.ordered_search.specs.Setting.{Setting, counts, reach, reach_if}
 use Rattle.search_costs.proofs.QuietStreams.{IsQuiet}

@@ -63,7 +63,8 @@ module _ (g : Setting) (off : g.matching.«partial» ≡ Off) (n p : ℕ) where
         search = onward g (turn_tasks g off n p d body (suc low) high lazily left s);
         state = s;
         of = λ m e.
-            of_todo (turn_of g off n p m d body (suc low) high lazily s (omega (arith, deep, e)) (omega (arith, e)) plain hs);
+            of_todo (turn_of g off n p m d body (suc low) high lazily s (omega (arith, deep, e)) (omega
+            (arith, e)) plain hs);
         is = λ u.
             on_part g d (tree.repeat body (suc low) high lazily) left (standing p u s)
             ∙ turn_is g off n p d body (suc low) high lazily left s u;
@@ -148,7 +149,8 @@ module _ (g : Setting) (off : g.matching.«partial» ≡ Off) (n p : ℕ) where
         search = onward g (turn_tasks g off n p d body 0 (Some (suc m)) false left s);
         state = s;
         of = λ k e.
-            of_todo (turn_of g off n p k d body 0 (Some (suc m)) false s (omega (arith, deep, e)) (omega (arith, e)) plain
+            of_todo (turn_of g off n p k d body 0 (Some (suc m)) false s (omega (arith, deep, e)) (omega
+            (arith, e)) plain
             hs);
         second = onward g left;
         state_second = s;

@@ -1,5 +1,6 @@
 -- A graph of sites: what a search does at each of them, and what it has left to do there.
-use Rattle.std.specs.Prelude.{◌≡◌, ℕ, zero, suc, ◌<◌, ◌-◌, Bool, true, false, List, [], ◌∷◌, map, All, Option, Some, None}
+use Rattle.std.specs.Prelude.{◌≡◌, ℕ, zero, suc, ◌<◌, ◌-◌, Bool, true, false, List, [], ◌∷◌, map, All, Option, Some}
+use Rattle.std.specs.Prelude.{None}
 use Rattle.std.specs.Prelude.{nat_le}
 use Rattle.pat_tree.specs.declared.nodes.Item.{Item}
 use Rattle.pat_tree.specs.declared.nodes.AnchorKind.{AnchorKind}
@@ -67,7 +68,8 @@ pub data Skips : Left → Left → Type 0 where
 -- One unit more is held.
 pub data Holds : Left → Left → Type 0 where
   opens : {n : ℕ} {ts : Row} {ks : List Key}
-      → Holds (todo (part_key (tree.group (Some n) ts) ∷ ks)) (todo (part_key (tree.group None ts) ∷ closing_key n ∷ ks))
+      → Holds (todo (part_key (tree.group (Some n) ts) ∷ ks)) (todo (part_key
+      (tree.group None ts) ∷ closing_key n ∷ ks))
   closes : {n : ℕ} {ks : List Key} → Holds (todo (closing_key n ∷ ks)) (todo ks)
 
 -- Step.
@@ -87,7 +89,8 @@ pub data Branches : Left → Left → Left → Type 0 where
   branch : {t u : Nested} {ts : Row} {ks : List Key}
       → Branches (choosing t (more u ts) ks) (todo (part_key t ∷ ks)) (choosing u ts ks)
   turn_or_exit : {body : Nested} {ks : List Key}
-      → Branches (todo (part_key (tree.repeat body 0 None false) ∷ ks)) (todo (after_body body 0 None false ks)) (todo ks)
+      → Branches (todo (part_key (tree.repeat body 0 None false) ∷ ks)) (todo (after_body body 0 None false ks))
+      (todo ks)
   bounded : {body : Nested} {n : ℕ} {ks : List Key}
       → Branches (todo (part_key (tree.repeat body 0 (Some (suc n)) false) ∷ ks))
       (todo (after_body body 0 (Some (suc n)) false ks)) (todo ks)
@@ -97,7 +100,8 @@ pub data Leaves : Left → Left → Left → Type 0 where
   exit_or_turn : {body : Nested} {ks : List Key}
       → Leaves (todo (part_key (tree.repeat body 0 None true) ∷ ks)) (todo ks) (a_turn body 0 None true ks)
   bounded_lazily : {body : Nested} {n : ℕ} {ks : List Key}
-      → Leaves (todo (part_key (tree.repeat body 0 (Some (suc n)) true) ∷ ks)) (todo ks) (a_turn body 0 (Some (suc n)) true ks)
+      → Leaves (todo (part_key (tree.repeat body 0 (Some (suc n)) true) ∷ ks)) (todo ks) (a_turn body 0 (Some
+      (suc n)) true ks)
 
 -- A character is taken.
 pub data Takes (item : Item) : Left → Left → Type 0 where
