@@ -28,7 +28,7 @@ use Rattle.search_costs.proofs.Onward.{all_deepened, deepest, extends_onward, la
 use Rattle.search_costs.proofs.KeptTasks.{keeps_onward, keys_later}
 use Rattle.search_costs.proofs.CostLaw.{keeps_plain, depth, meets_failure}
 
-or_else_twice : (x y z : Stream) → ((x or_else y) or_else z) ≡ (x or_else (y or_else z))
+pub or_else_twice : (x y z : Stream) → ((x or_else y) or_else z) ≡ (x or_else (y or_else z))
 unfolding ◌or_else◌
 or_else_twice (ends exhausted) y z = refl
 or_else_twice (ends (by_verb v)) y z = refl
@@ -37,7 +37,7 @@ or_else_twice (note k ▸ x) y z = ap (λ x. note k ▸ x) (or_else_twice x y z)
 or_else_twice (state how s ▸ x) y z = ap (λ x. state how s ▸ x) (or_else_twice x y z)
 or_else_twice (step ▸ x) y z = ap (λ x. step ▸ x) (or_else_twice x y z)
 
-each_or_else : (x y : Stream) (f : How → Search) → each (x or_else y) f ≡ (each x f or_else each y f)
+pub each_or_else : (x y : Stream) (f : How → Search) → each (x or_else y) f ≡ (each x f or_else each y f)
 unfolding ◌or_else◌ each
 each_or_else (ends exhausted) y f = refl
 each_or_else (ends (by_verb v)) y f = refl

@@ -1,0 +1,9 @@
+mod Streams
+mod Leading
+mod Fewer
+mod OneSite
+mod TwoSites
+mod SiteLaw
+mod AskLaw
+mod StartLaw
+mod Offers
