@@ -2,7 +2,7 @@
 ghost use Rattle.std.specs.Prelude.{[], IfOk};
 ghost use Rattle.pat_save.specs.Checked.{AreChecked, IsChecked};
 
-use pat_save::{Saved, SavedList, Text, write};
+use pat_save::{LoadError, Saved, SavedList, Text, read, write};
 use pat_tree::{Draft, Memory, Node, Options, Tree};
 use std::alloc::Global;
 use std::test::Fail;
@@ -49,5 +49,26 @@ fn the_pattern_without_an_item_has_one_node(rt: HostRuntime) -> Result<(), Fail>
     let list = alone(rt.alloc(), tree)?;
     let image = write(rt.alloc(), &list)?;
     assert_eq!(rt; image.bytes(), EMPTY.as_slice());
+    Ok(())
+}
+
+#[test]
+fn four_letters_and_a_count_of_none_are_no_pattern(rt: HostRuntime) -> Result<(), Fail> {
+    let alloc = rt.alloc();
+    let list = read(alloc, NONE.as_slice())?;
+    assert!(rt; list.len() == 0);
+    let mut more = NONE.as_slice().to_vec(alloc)?;
+    more.push(0)?;
+    assert!(rt; matches!(read(alloc, &more), Err(LoadError::Bad)));
+    Ok(())
+}
+
+#[test]
+fn more_than_16_megabytes_are_too_large(rt: HostRuntime) -> Result<(), Fail> {
+    let mut bytes = NONE.as_slice().to_vec(rt.alloc())?;
+    bytes.resize(16_777_216, 0)?;
+    assert!(rt; matches!(read(rt.alloc(), &bytes), Err(LoadError::Bad)));
+    bytes.push(0)?;
+    assert!(rt; matches!(read(rt.alloc(), &bytes), Err(LoadError::TooLarge)));
     Ok(())
 }

@@ -1,5 +1,0 @@
-//! Images of patterns.
-#![tactic(auto)]
-
-#[cfg(test)]
-mod images;
