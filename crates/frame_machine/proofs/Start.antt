@@ -45,7 +45,7 @@ module _ (c : Ground) (ok : IsGround c) (place : ℕ) where
       let d : ℕ = match_limit c.setting + 1 in
       let K : Outside = outside c [] start_caps 0 in
       let follow : past c d K c.root ≡ at_end = past_end c c.root ok.last false (ap (settles_by c) ok.whole_unlooked)
-          d K
+      d K
       ∙ cont_whole c [] start_caps in
       ap (λ (z : Follow). tread c.setting (match_limit c.setting)
       (paths c.setting d (tree_of c c.root) (first_state c.setting.groups place) z exhaust (K.hand c.root)))

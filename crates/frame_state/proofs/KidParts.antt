@@ -277,7 +277,7 @@ module _ (c : Ground) where
           (back_all P tests ends places) (back_all (λ k. BeginsBy c k k) tests ends owns)
           (back_all (IsLooked c) tests ends ls)
           (all_on ends (chosen_on ends
-                  (back_all (λ k. c.look_branch k ≡ (if is_in k ends then c.look_branch q else None))
+          (back_all (λ k. c.look_branch k ≡ (if is_in k ends then c.look_branch q else None))
           tests ends u))))
       parts_by (node.Call m) l a r t w places owns u ls = All-nil (IsPart c)
       parts_by (node.Ref ns caseless) l a r t w places owns u ls = All-nil (IsPart c)

@@ -697,7 +697,7 @@ module _ (c : Ground) (ok : IsGround c) (q : ℕ) (spot : Spot) (stack : List En
           (first_kept backward ks (around_at c stack spot.frame spot.passed) opened caps)
           ∙ sym (branches_in c p level ks b none (inside_of c r stack caps) h
           (alone c (r ∷ stack) caps (suc (length stack)) (inside_of c r stack caps).follow (entry_kept r).place ks
-                None h
+          None h
           framed
           (λ x none. hand_frame c (r ∷ stack) caps (suc (length stack)) x none ∙ sym is))
           (agreed_frame c (r ∷ stack) caps (suc (length stack)) p h is)
@@ -847,7 +847,7 @@ module _ (c : Ground) (ok : IsGround c) (q j : ℕ) (spot : Spot) (stack : List 
   own_branch =
       let counts : row_length (row (map (tree_at c.trees) ks)) ≡ length ks = length_row c ks in
       let two : 1 < row_length (row (map (tree_at c.trees) ks)) =
-          subst (λ r. 1 < row_length r) b.rows v.running.2.0.1 in
+      subst (λ r. 1 < row_length r) b.rows v.running.2.0.1 in
       All-at c (λ k. c.branch k ≡ branch_if ks b.outer k) ks j p b.own at
       ∙ branch_own ks b.outer p (omega (arith, two, counts))
 

@@ -13,7 +13,7 @@ pub returns : goal.returns
 returns g c =
     subst (λ (o : Option ℕ). MatchOption c.need_of.result (Unit {0})
     (λ f. IsFollower (g.S.Searchable.searched c.args.on.now)
-          (towards o (settles (g.S.Searchable.searched c.args.on.now) c.args.at)) c.args.spot.now.frame
+    (towards o (settles (g.S.Searchable.searched c.args.on.now) c.args.at)) c.args.spot.now.frame
     c.args.store.now.records c.args.registers.now f.need f.units)) c.in-Some.ensures
     (follows (g.S.Searchable.searched c.args.on.now) (g.met.S.Searchable.sound c.args.on.now) c.in-Some.next
     c.args.spot.now.frame c.args.store.now.records c.args.registers.now c.need_of.result

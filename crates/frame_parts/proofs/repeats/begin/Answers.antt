@@ -36,5 +36,5 @@ returns-clause-on g c =
     c.turns_of-turns.result.body c.turns_of-turns.result.min c.turns_of-turns.result.max
     c.turns_of-turns.result.lazy c.turns_of-turns.ensures.is c.args.exits c.requires.valid
     c.turns_of-turns.ensures.body (c.turns_of-turns.ensures.alone, c.turns_of-turns.ensures.unlooked)
-        c.turns_of-turns.ensures.framed
+    c.turns_of-turns.ensures.framed
     (omega (arith, c.if-spot-eq0.false)) (omega (arith, c.in_default.ensures.room, c.unit_limit.ensures)))
